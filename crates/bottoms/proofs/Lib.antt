@@ -1,0 +1,5 @@
+mod Moves
+mod Gathered
+mod Cursors
+mod Banks
+mod Blocks

@@ -1,0 +1,4 @@
+mod Words
+pub mod Apart
+pub mod Sets
+pub mod Rounding
