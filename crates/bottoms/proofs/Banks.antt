@@ -64,6 +64,30 @@ set-bounded (x ∷ xs) set h b y =
     let p = fresh-parts set x xs h in
     set-bounded xs (with set x) (p .2) (λ z k. elim (with-cases set x z k) [ inl a ↦ b z a | inr e ↦ omega (arith, p .0, e) ]) y
 
+-- what a bank does with a request, case by case
+
+module _ (xs : List ℕ) where
+  pub count-cases : (n : ℕ) (w : Size) → (countMove xs n w ≡ refuse n) ⊎ ((countMove xs n w ≡ grant (register xs n) (n + 1)) × (n < length xs) × (bytes w ≤ 4))
+  count-cases n One = inl refl
+  count-cases n Two = inl refl
+  count-cases n Eight = inl refl
+  count-cases n Four =
+      elim (cases-bool (ltb n (length xs))) [ inl t ↦ inr (cond-true _ _ _ t, ltb-true _ _ t, omega arith) | inr f ↦ inl (cond-false _ _ _ f) ]
+
+  abbrev pub Four-given : ℕ → ℕ → Size → Type 0
+  Four-given n c w = (bitsMove xs n c w ≡ grant (register xs (c / 4)) (c + 4)) × (c + 4 ≤ 4 * length xs) × (w ≡ Four)
+
+  abbrev pub Eight-given : ℕ → ℕ → Size → Type 0
+  Eight-given n c w = (bitsMove xs n c w ≡ grant (registerPair xs (c / 4)) (c + 8)) × (c + 8 ≤ 4 * length xs) × (w ≡ Eight)
+
+  pub bits-cases : (n c : ℕ) (w : Size) → (bitsMove xs n c w ≡ refuse n) ⊎ (Four-given n c w ⊎ Eight-given n c w)
+  bits-cases n c One = inl refl
+  bits-cases n c Two = inl refl
+  bits-cases n c Four =
+      elim (cases-bool (leb (c + 4) (4 * length xs))) [ inl t ↦ inr (inl (cond-true _ _ _ t, leb-true _ _ t, refl)) | inr f ↦ inl (cond-false _ _ _ f) ]
+  bits-cases n c Eight =
+      elim (cases-bool (leb (c + 8) (4 * length xs))) [ inl t ↦ inr (inr (cond-true _ _ _ t, leb-true _ _ t, refl)) | inr f ↦ inl (cond-false _ _ _ f) ]
+
 module _ (xs : List ℕ) (d : distinct xs ≡ true) where
   -- a register of the list at an index from lo up to below hi
   abbrev At : ℕ → ℕ → Piece → Type 0
@@ -99,16 +123,9 @@ module _ (xs : List ℕ) (d : distinct xs ≡ true) where
   bank-set : (y : ℕ) → has (setOf xs) y ≡ true → y ≤ 27
   bank-set = set-bounded xs 0 d (λ y h. absurd (none-in-empty y h))
 
-  count-cases : (n : ℕ) (w : Size) → (countMove xs n w ≡ refuse n) ⊎ ((countMove xs n w ≡ grant (register xs n) (n + 1)) × (n < length xs) × (bytes w ≤ 4))
-  count-cases n One = inl refl
-  count-cases n Two = inl refl
-  count-cases n Eight = inl refl
-  count-cases n Four =
-      elim (cases-bool (ltb n (length xs))) [ inl t ↦ inr (cond-true _ _ _ t, ltb-true _ _ t, omega arith) | inr f ↦ inl (cond-false _ _ _ f) ]
-
   pub count-lawful : Lawful (bankQuestions xs) (countBook xs 0)
   count-lawful =
-      cursor-lawful At at-apart (λ n. n) (λ n. 0) (bankQuestions xs) (λ n. Unit {0}) (λ n r. countMove xs n (r .width)) (λ n r i. elim (count-cases n (r .width)) [
+      cursor-lawful At at-apart (λ n. n) (λ n. 0) (bankQuestions xs) (λ n. Unit {0}) (λ n r. countMove xs n (r .width)) (λ n r i. elim (count-cases xs n (r .width)) [
           inl e ↦ inl e
         | inr h ↦ inr (record {
             place = register xs n;
@@ -126,27 +143,13 @@ module _ (xs : List ℕ) (d : distinct xs ≡ true) where
   abbrev index : ℕ → ℕ
   index n = (n + 3) / 4
 
-  abbrev Four-given : ℕ → ℕ → Size → Type 0
-  Four-given n c w = (bitsMove xs n c w ≡ grant (register xs (c / 4)) (c + 4)) × (c + 4 ≤ 4 * length xs) × (bytes w ≤ 4)
-
-  abbrev Eight-given : ℕ → ℕ → Size → Type 0
-  Eight-given n c w = (bitsMove xs n c w ≡ grant (registerPair xs (c / 4)) (c + 8)) × (c + 8 ≤ 4 * length xs) × (bytes w ≤ 8)
-
-  bits-cases : (n c : ℕ) (w : Size) → (bitsMove xs n c w ≡ refuse n) ⊎ (Four-given n c w ⊎ Eight-given n c w)
-  bits-cases n c One = inl refl
-  bits-cases n c Two = inl refl
-  bits-cases n c Four =
-      elim (cases-bool (leb (c + 4) (4 * length xs))) [ inl t ↦ inr (inl (cond-true _ _ _ t, leb-true _ _ t, omega arith)) | inr f ↦ inl (cond-false _ _ _ f) ]
-  bits-cases n c Eight =
-      elim (cases-bool (leb (c + 8) (4 * length xs))) [ inl t ↦ inr (inr (cond-true _ _ _ t, leb-true _ _ t, omega arith)) | inr f ↦ inl (cond-false _ _ _ f) ]
-
   pub bits-lawful : Lawful (bankQuestions xs) (bitsBook xs 0)
   bits-lawful =
       cursor-lawful At at-apart index (λ n. 0) (bankQuestions xs) (λ n. Unit {0}) (λ n r. bitsMove xs n (bitsStart n r) (r .width)) (λ n r i.
         let c = bitsStart n r in
         let m : c % 4 ≡ 0 = by-four (r .alignment) n in
         let l : n ≤ c = rounded (largerOf Four (r .alignment)) n .not-below in
-        elim (bits-cases n c (r .width)) [
+        elim (bits-cases xs n c (r .width)) [
             inl e ↦ inl e
           | inr t ↦ elim t [
               inl h ↦ inr (record {
@@ -154,7 +157,7 @@ module _ (xs : List ℕ) (d : distinct xs ≡ true) where
                 cursor = c + 4;
                 moved = h .0;
                 between = ((c / 4, omega (arith, m, l), omega (arith, m), omega (arith, m, h .1), refl), tt);
-                lawful = one-granted r (c / 4) (omega (arith, m, h .1)) (h .2);
+                lawful = one-granted r (c / 4) (omega (arith, m, h .1)) (omega (arith, ap bytes (h .2)));
                 onward = omega (arith, m, l);
                 larger = omega arith;
                 again = tt;
@@ -164,7 +167,7 @@ module _ (xs : List ℕ) (d : distinct xs ≡ true) where
                 cursor = c + 8;
                 moved = h .0;
                 between = ((c / 4, omega (arith, m, l), omega (arith, m), omega (arith, m, h .1), refl), ((c / 4 + 1, omega (arith, m, l), omega (arith, m), omega (arith, m, h .1), refl), tt));
-                lawful = pair-granted r (c / 4) (omega (arith, m, h .1)) (h .2);
+                lawful = pair-granted r (c / 4) (omega (arith, m, h .1)) (omega (arith, ap bytes (h .2)));
                 onward = omega (arith, m, l);
                 larger = omega arith;
                 again = tt;

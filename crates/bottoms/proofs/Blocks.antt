@@ -62,13 +62,13 @@ given-granted m r o Eight e a = record {
   reach-lies-above-its-block-bytes = (omega arith, (omega arith, tt));
 }
 
-abbrev start : ℕ → Request → ℕ
+abbrev pub start : ℕ → Request → ℕ
 start n r = roundUp (bytes (r .alignment)) n
 
-abbrev Given : Size → ℕ → Request → Type 0
+abbrev pub Given : Size → ℕ → Request → Type 0
 Given m n r = (upMove m n r ≡ grant (blockPlace (start n r) (r .width)) (start n r + bytes (r .width))) × (start n r + bytes (r .width) ≤ 4096)
 
-up-cases : (m : Size) (n : ℕ) (r : Request) → (upMove m n r ≡ refuse n) ⊎ Given m n r
+pub up-cases : (m : Size) (n : ℕ) (r : Request) → (upMove m n r ≡ refuse n) ⊎ Given m n r
 up-cases m n r =
     let a = leb (bytes (r .alignment)) (bytes m) in
     let b = leb (start n r + bytes (r .width)) 4096 in

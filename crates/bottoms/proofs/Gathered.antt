@@ -15,20 +15,17 @@ module _ (set : ℕ) (xs : List ℕ) (i : ℕ) (h : i < length xs) where
   abbrev x : ℕ
   x = getD xs i 0
 
+  step : freshIn set (drop i xs) ≡ (leb x 27 && (not (has set x) && freshIn (with set x) (drop (i + 1) xs)))
+  step = at-drop-more (freshIn set) xs i 0 h
+
   pub above : 27 < x → freshIn set (drop i xs) ≡ false
-  above l =
-      let step : freshIn set (drop i xs) ≡ (leb x 27 && (not (has set x) && freshIn (with set x) (drop (i + 1) xs))) = at-drop-more (freshIn set) xs i 0 h in
-      step ∙ rw (lt-leb x 27 l)
+  above l = step ∙ rw (lt-leb x 27 l)
 
   pub twice : has set x ≡ true → freshIn set (drop i xs) ≡ false
-  twice e =
-      let step : freshIn set (drop i xs) ≡ (leb x 27 && (not (has set x) && freshIn (with set x) (drop (i + 1) xs))) = at-drop-more (freshIn set) xs i 0 h in
-      step ∙ rw e (elim (leb x 27) as (λ b. (b && false) ≡ false) [ true ↦ refl | false ↦ refl ])
+  twice e = step ∙ rw e (elim (leb x 27) as (λ b. (b && false) ≡ false) [ true ↦ refl | false ↦ refl ])
 
   pub fresh : x ≤ 27 → has set x ≡ false → freshIn set (drop i xs) ≡ freshIn (with set x) (drop (i + 1) xs)
-  fresh l e =
-      let step : freshIn set (drop i xs) ≡ (leb x 27 && (not (has set x) && freshIn (with set x) (drop (i + 1) xs))) = at-drop-more (freshIn set) xs i 0 h in
-      step ∙ rw (le-leb x 27 l, e)
+  fresh l e = step ∙ rw (le-leb x 27 l, e)
 
   pub gathered : withAll set (drop i xs) ≡ withAll (with set x) (drop (i + 1) xs)
   gathered = at-drop-more (withAll set) xs i 0 h

@@ -3,3 +3,4 @@ mod Gathered
 mod Cursors
 mod Banks
 mod Blocks
+mod Grants

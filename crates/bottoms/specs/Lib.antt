@@ -1,2 +1,3 @@
 pub mod Lists
 pub mod Bottoms
+pub mod Grants

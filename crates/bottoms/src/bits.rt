@@ -5,6 +5,7 @@ ghost use lib.ListN.{take};
 ghost use Rattle.std.specs.Vec.{made};
 ghost use Rattle.stage.specs.Books.{builtIn};
 ghost use Rattle.stage.specs.Faults.{faultOf};
+ghost use Rattle.bottoms.specs.Grants.{Starts-at-multiples-of-the-alignment};
 ghost use Rattle.bottoms.specs.Lists.{listFault};
 ghost use Rattle.bottoms.specs.Bottoms.{bitsBook, bitsProfile};
 use crate::register_list::RegisterList;
@@ -29,6 +30,7 @@ impl Bits {
     pub fn new(registers: &[u8]) -> Result<Bits, ParameterFault>
         ensures refused_by_count_then_by_register { λ r. ⌜ faultOf r ≡ listFault (now (registers .entry)) ⌝ }
         ensures starts_with_the_list { λ r. ⌜ made r (λ s. (take (s .list .len) (s .list .registers) ≡ now (registers .entry)) × (s .cursor ≡ 0)) ⌝ }
+        ensures starts_at_multiples_of_the_alignment { λ r. ⌜ made r (λ _. Starts-at-multiples-of-the-alignment (now (registers .entry))) ⌝ }
     {
         let list = RegisterList::new(registers)?;
         Ok(Bits { list, cursor: 0 })

@@ -5,6 +5,7 @@ ghost use lib.ListN.{take};
 ghost use Rattle.std.specs.Vec.{made};
 ghost use Rattle.stage.specs.Books.{builtIn};
 ghost use Rattle.stage.specs.Faults.{faultOf};
+ghost use Rattle.bottoms.specs.Grants.{Gives-registers-in-order};
 ghost use Rattle.bottoms.specs.Lists.{listFault};
 ghost use Rattle.bottoms.specs.Bottoms.{countBook, countProfile};
 use crate::register_list::RegisterList;
@@ -28,6 +29,7 @@ impl Count {
     pub fn new(registers: &[u8]) -> Result<Count, ParameterFault>
         ensures refused_by_count_then_by_register { λ r. ⌜ faultOf r ≡ listFault (now (registers .entry)) ⌝ }
         ensures starts_with_the_list { λ r. ⌜ made r (λ s. (take (s .list .len) (s .list .registers) ≡ now (registers .entry)) × (s .next ≡ 0)) ⌝ }
+        ensures gives_registers_in_order { λ r. ⌜ made r (λ _. Gives-registers-in-order (now (registers .entry))) ⌝ }
     {
         let list = RegisterList::new(registers)?;
         Ok(Count { list, next: 0 })

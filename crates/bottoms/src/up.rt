@@ -5,6 +5,7 @@ ghost use Rattle.std.specs.Vec.{made};
 ghost use Rattle.stage.specs.Books.{builtIn};
 ghost use Rattle.stage.specs.Faults.{faultOf};
 ghost use Rattle.place.specs.Sizes.{bytes};
+ghost use Rattle.bottoms.specs.Grants.{Follow-one-another};
 ghost use Rattle.bottoms.specs.Bottoms.{upBook, upProfile, blockPlace, limitFault};
 use place::pieces::Piece;
 use place::pieces::Place;
@@ -27,6 +28,7 @@ impl Up {
     pub fn new(limit: u8) -> Result<Up, ParameterFault>
         ensures refused_unless_1_2_4_or_8 { λ r. ⌜ faultOf r ≡ limitFault limit ⌝ }
         ensures starts_empty_with_the_limit { λ r. ⌜ made r (λ s. (bytes (s .limit) ≡ limit) × (s .used ≡ 0)) ⌝ }
+        ensures places_follow_one_another { λ r. ⌜ made r (λ s. Follow-one-another (s .limit)) ⌝ }
     {
         match Size::from_bytes(limit) {
             Some(limit) => Ok(Up { limit, used: 0 }),

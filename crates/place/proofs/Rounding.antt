@@ -2,6 +2,7 @@
 use mathlib.Core.Path.{_≡_}
 use Prim.Native.Nat.{ℕ, _+_, _%_, _≤_, _<_}
 use native.Mathlib.Omega.{arith}
+use Rattle.std.proofs.shelf.Ways.{tells}
 use Rattle.place.specs.Sizes.{bytes, largerOf, roundUp}
 use Rattle.place.specs.declared.sizes.Size.{Size}
 use Rattle.place.specs.declared.sizes.Size.the-variants.{One, Two, Four, Eight}
@@ -31,9 +32,28 @@ at-most-eight Two = omega arith
 at-most-eight Four = omega arith
 at-most-eight Eight = omega arith
 
+pub grown : (m s : Size) → bytes s ≤ bytes (largerOf m s)
+grown m s = grind (arith, tells)
+
+pub four-grown : (s : Size) → 4 ≤ bytes (largerOf Four s)
+four-grown s = grind (arith, tells)
+
+-- a multiple of the larger of two sizes is one of either
+pub divides : (m s : Size) (o : ℕ) → bytes s ≤ bytes m → o % bytes m ≡ 0 → o % bytes s ≡ 0
+divides m One o l e = omega arith
+divides One Two o l e = absurd (omega arith)
+divides Two Two o l e = e
+divides Four Two o l e = omega arith
+divides Eight Two o l e = omega arith
+divides One Four o l e = absurd (omega arith)
+divides Two Four o l e = absurd (omega arith)
+divides Four Four o l e = e
+divides Eight Four o l e = omega arith
+divides One Eight o l e = absurd (omega arith)
+divides Two Eight o l e = absurd (omega arith)
+divides Four Eight o l e = absurd (omega arith)
+divides Eight Eight o l e = e
+
 -- what is rounded up to four or more is a multiple of 4
 pub by-four : (s : Size) (n : ℕ) → roundUp (bytes (largerOf Four s)) n % 4 ≡ 0
-by-four One n = omega arith
-by-four Two n = omega arith
-by-four Four n = omega arith
-by-four Eight n = omega arith
+by-four s n = divides (largerOf Four s) Four _ (four-grown s) (rounded (largerOf Four s) n .multiple)

@@ -1,12 +1,14 @@
 -- What holds of a book along every list of requests.
+use mathlib.Core.Bool.{false}
 use mathlib.Core.List.{List, [], _∷_}
 use mathlib.Core.Path.{_≡_}
+use Prim.Native.Nat.{ℕ}
 use Rattle.std.specs.declared.option.Option.the-variants.{Some}
 use Rattle.place.specs.Pieces.{PlacesApart}
 use Rattle.place.specs.declared.pieces.Place.{Place}
 use Rattle.place.specs.declared.requests.Request.{Request}
-use Rattle.stage.specs.Books.{Book, Entry, Questions, bookOf, said, after, past}
-use Rattle.stage.specs.Lawful.{LawfulHere}
+use Rattle.stage.specs.Books.{Book, Entry, Questions, bookOf, said, used, after, past}
+use Rattle.stage.specs.Lawful.{Granted, LawfulHere}
 
 -- a fact Q of the books of states, where a fact P of the states is kept
 pub along : {S : Type 0} (shows : S → Entry) (next : S → Request → S) (P : S → Type 0)
@@ -32,3 +34,14 @@ Spares p b = (later : List Request) → SparesNow p (past b later)
 
 pub spares-after : (p : Place) (b : Book) (r : Request) → Spares p b → Spares p (after b r)
 spares-after p b r h = λ later. h (r ∷ later)
+
+pub always-past : (q : Questions) (b : Book) (rs : List Request) → Always q b → Always q (past b rs)
+always-past q b [] h = h
+always-past q b (r ∷ rs) h = always-past q (after b r) rs (always-after q b r h)
+
+-- a place that a lawful book gives; without a block its reach stays 0
+abbrev pub Given : Questions → Request → Place → ℕ → Type 0
+Given q r p n = Granted q r p n × (q .block ≡ false → n ≡ 0)
+
+pub given : (q : Questions) (b : Book) → Always q b → (r : Request) (p : Place) → said b r ≡ Some p → Given q r p (used (after b r))
+given q b h r p e = (h [] .places-are-granted-lawfully r p e, h (r ∷ []) .reach-is-0-without-a-block)

@@ -1,6 +1,7 @@
 -- A stage's meaning is its book: for each list of further requests, its answer to one request more and the block bytes used by then.
 use mathlib.Core.Bool.{Bool}
 use mathlib.Core.List.{List, [], _∷_, _++_}
+use mathlib.Core.Path.{_≡_}
 use Prim.Native.Nat.{ℕ}
 use Rattle.std.specs.Vec.{listOf}
 use Rattle.std.specs.declared.option.Option.{Option}
@@ -65,3 +66,9 @@ pub record Profile : Type 0 where
   pub first : Book
   pub firstBlame : Blame
   pub questions : Questions
+
+-- a stage that was just cleared: its book, its blame and its profile, by the profile that it had before
+pub record Cleared (b : Book) (lines : Blame) (p before : Profile) : Type 0 where
+  pub first-book-is-back : b ≡ before .first
+  pub first-blame-is-back : lines ≡ before .firstBlame
+  pub profile-stays : p ≡ before

@@ -1,0 +1,3 @@
+mod TwoSides
+mod Layers
+mod GatheredKinds
