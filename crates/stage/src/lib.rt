@@ -3,11 +3,16 @@ ghost use mathlib.Core.List.{[]};
 ghost use mathlib.Core.Path.{_≡_};
 ghost use Rattle.std.specs.Results.{okPart};
 ghost use Rattle.std.specs.Vec.{refused};
+ghost use Rattle.std.specs.Written.{decimal};
+ghost use Rattle.std.specs.declared.option.Option.the-variants.{Some};
 ghost use Rattle.stage.specs.Books.{Book, Blame, Profile, said, used, after};
+ghost use Rattle.stage.specs.Faults.{parameterFault};
 ghost use Rattle.stage.specs.Lawful.{Lawful};
 use place::pieces::Place;
 use place::registers::RegisterSet;
 use place::requests::Request;
+use std::error::Error;
+use std::fmt;
 
 // A request that was not granted.
 #[derive(Clone, Copy, PartialEq, Eq, Debug)]
@@ -24,6 +29,21 @@ pub enum ParameterFault {
     // A number or a register out of its range, or a register twice.
     Range,
 }
+
+// Its number.
+pub impl fmt::Display for ParameterFault as ParameterFaultDisplay {
+    ghost shown = { λ f. Some (decimal (parameterFault f .number)) };
+
+    fn fmt<W: fmt::Write>(&self, f: &mut fmt::Formatter<W>) -> fmt::Result {
+        let number: u8 = match self {
+            ParameterFault::Form => 2,
+            ParameterFault::Range => 3,
+        };
+        write!(f, "{number}")
+    }
+}
+
+pub impl Error for ParameterFault as ParameterFaultError {}
 
 pub trait Stage {
     // What it answers and uses from here on.
