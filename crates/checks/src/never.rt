@@ -4,9 +4,9 @@ ghost use Rattle.stage.specs.Books.{builtIn};
 ghost use Rattle.checks.specs.Never.{neverBook, neverProfile};
 use place::pieces::Place;
 use place::registers::RegisterSet;
-use place::requests::Request;
 use stage::Refusal;
 use stage::Stage;
+use values::requests::Request;
 
 #[derive(Drop)]
 pub struct Never {}

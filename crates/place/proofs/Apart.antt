@@ -6,11 +6,11 @@ use native.Mathlib.Omega.{arith}
 use Rattle.std.proofs.shelf.Elements.{all-weaker}
 use Rattle.std.specs.shelf.Lists.{All}
 use Rattle.place.specs.Pieces.{Byte, of-register, of-block, Covers, Apart, pieces, PlacesApart}
-use Rattle.place.specs.Sizes.{bytes}
+use Rattle.values.specs.Sizes.{bytes}
 use Rattle.place.specs.declared.pieces.Piece.{Piece}
 use Rattle.place.specs.declared.pieces.Piece.the-variants.{Register, Block}
 use Rattle.place.specs.declared.pieces.Place.{Place}
-use Rattle.place.specs.declared.sizes.Size.{Size}
+use Rattle.values.specs.declared.sizes.Size.{Size}
 
 pub registers-apart : (x y : ℕ) → (x ≡ y → ⊥) → Apart (Register x) (Register y)
 registers-apart x y ne (of-register q k) a b = ne (sym (a .0) ∙ b .0)

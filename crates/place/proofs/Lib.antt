@@ -1,4 +1,2 @@
-mod Words
 pub mod Apart
 pub mod Sets
-pub mod Rounding

@@ -49,17 +49,19 @@ power-itself x = let e : 2 ^ x / 2 ^ x ≡ 1 = rw one-mul at (shl-shr 1 x) in rw
 power-other : (x y : ℕ) → bit (2 ^ x) y ≡ 1 → x ≡ y
 power-other x y h =
     elim (cases-order x y) [
-        inl e ↦ e
+      | inl e ↦ e
       | inr d ↦ elim d [
-          inl l ↦
-              let below : 2 ^ x / 2 ^ y < 1 = div-below (2 ^ x) (2 ^ y) 1 (pow-pos y) (let p : 2 ^ x < 2 ^ y = pow-lt l in omega arith) in
-              absurd (omega arith)
+        | inl l ↦
+            let below : 2 ^ x / 2 ^ y < 1 = div-below (2 ^ x) (2 ^ y) 1 (pow-pos y) (let p : 2 ^ x < 2 ^ y = pow-lt l in omega arith) in
+            absurd (omega arith)
         | inr g ↦
-              let k = x - y - 1 in
-              let split : x ≡ (k + 1) + y = omega arith in
-              let e : 2 ^ x / 2 ^ y ≡ 2 ^ (k + 1) = ap (λ n. 2 ^ n / 2 ^ y) split ∙ (ap (λ n. n / 2 ^ y) (pow-add 2 (k + 1) y) ∙ shl-shr (2 ^ (k + 1)) y) in
-              let f : 2 ^ (k + 1) ≡ 2 ^ k * 2 = pow-add 2 k 1 in
-              absurd (omega (arith, e, f)) ] ]
+            let k = x - y - 1 in
+            let split : x ≡ (k + 1) + y = omega arith in
+            let e : 2 ^ x / 2 ^ y ≡ 2 ^ (k + 1) = ap (λ n. 2 ^ n / 2 ^ y) split ∙ (ap (λ n. n / 2 ^ y) (pow-add 2 (k + 1) y) ∙ shl-shr (2 ^ (k + 1)) y) in
+            let f : 2 ^ (k + 1) ≡ 2 ^ k * 2 = pow-add 2 k 1 in
+            absurd (omega (arith, e, f))
+      ]
+    ]
 
 pub with-itself : (set x : ℕ) → x < 32 → has (with set x) x ≡ true
 with-itself set x h = rw (lt-ltb x 32 h) (union-right set (2 ^ x) x (eq-eqb _ 1 (power-itself x)))
@@ -70,5 +72,6 @@ with-others set x y h = elim (ltb x 32) as (λ b. has (cond b (bitOr set (2 ^ x)
 pub with-cases : (set x y : ℕ) → has (with set x) y ≡ true → (has set y ≡ true) ⊎ (x ≡ y)
 with-cases set x y =
     elim (ltb x 32) as (λ b. has (cond b (bitOr set (2 ^ x)) set) y ≡ true → (has set y ≡ true) ⊎ (x ≡ y)) [
-        true ↦ λ h. elim (union-cases set (2 ^ x) y h) [ inl a ↦ inl a | inr b ↦ inr (power-other x y (one-of (2 ^ x) y b)) ]
-      | false ↦ λ h. inl h ]
+      | true ↦ λ h. elim (union-cases set (2 ^ x) y h) [ inl a ↦ inl a | inr b ↦ inr (power-other x y (one-of (2 ^ x) y b)) ]
+      | false ↦ λ h. inl h
+    ]

@@ -5,7 +5,7 @@ use mathlib.Core.Path.{_≡_}
 use Prim.Native.Nat.{ℕ, _+_, _≤_, _<_}
 use Rattle.std.specs.Written.{decimal}
 use Rattle.std.specs.shelf.Lists.{All}
-use Rattle.place.specs.Sizes.{bytes}
+use Rattle.values.specs.Sizes.{bytes}
 use Rattle.place.specs.declared.pieces.Piece.{Piece}
 use Rattle.place.specs.declared.pieces.Piece.the-variants.{Register, Block}
 use Rattle.place.specs.declared.pieces.Place.{Place}

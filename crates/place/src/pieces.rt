@@ -1,10 +1,10 @@
 // Where a value is put.
 ghost use Rattle.std.specs.declared.option.Option.the-variants.{Some};
 ghost use Rattle.place.specs.Pieces.{pieceText};
-use crate::sizes::Size;
-use crate::sizes::SizeDebug;
 use std::fmt;
-use crate::sizes::SizePartialEq;
+use values::sizes::Size;
+use values::sizes::SizeDebug;
+use values::sizes::SizePartialEq;
 
 #[derive(Clone, Copy, PartialEq, Eq, Debug)]
 pub enum Piece {

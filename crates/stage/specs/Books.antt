@@ -6,7 +6,7 @@ use Prim.Native.Nat.{ℕ}
 use Rattle.std.specs.Vec.{listOf}
 use Rattle.std.specs.declared.option.Option.{Option}
 use Rattle.place.specs.declared.pieces.Place.{Place}
-use Rattle.place.specs.declared.requests.Request.{Request}
+use Rattle.values.specs.declared.requests.Request.{Request}
 
 -- what a book has after a list of requests: the block bytes used, and the place that one request more is given, or none
 pub record Entry : Type 0 where

@@ -1,5 +1,7 @@
 -- The faults of a stage's parameters, by number and position.
+use mathlib.Core.Bool.{cond, _||_}
 use Prim.Native.Nat.{ℕ}
+use lib.Dec.{eqb}
 use Rattle.std.specs.declared.option.Option.{Option}
 use Rattle.std.specs.declared.option.Option.the-variants.{Some, None}
 use Rattle.std.specs.declared.result.Result.{Result}
@@ -25,3 +27,7 @@ parameterFault Range = unplaced 3
 abbrev pub faultOf : {X : Type 0} → Result X ParameterFault → Option Fault
 faultOf (Ok x) = None
 faultOf (Err f) = Some (parameterFault f)
+
+-- a width to test for, or a width or alignment to raise to, is 2, 4 or 8
+abbrev pub widthFault : ℕ → Option Fault
+widthFault n = cond (eqb n 2 || eqb n 4 || eqb n 8) None (Some (unplaced 3))

@@ -8,11 +8,11 @@ use Rattle.std.specs.declared.option.Option.the-variants.{Some}
 use Rattle.std.specs.shelf.Lists.{All}
 use Rattle.place.specs.Pieces.{pieces, lowPiece, placeWidth, WellFormed, PiecesApart, PlacesApart}
 use Rattle.place.specs.Registers.{has}
-use Rattle.place.specs.Sizes.{bytes}
+use Rattle.values.specs.Sizes.{bytes}
 use Rattle.place.specs.declared.pieces.Piece.{Piece}
 use Rattle.place.specs.declared.pieces.Piece.the-variants.{Register, Block}
 use Rattle.place.specs.declared.pieces.Place.{Place}
-use Rattle.place.specs.declared.requests.Request.{Request}
+use Rattle.values.specs.declared.requests.Request.{Request}
 use Rattle.stage.specs.Books.{Book, Questions, said, used, after, past}
 
 -- a register of the set
@@ -43,7 +43,7 @@ pub record Granted (q : Questions) (r : Request) (p : Place) (n : ℕ) : Type 0 
 pub record LawfulHere (q : Questions) (b : Book) : Type 0 where
   pub places-are-granted-lawfully : (r : Request) (p : Place) → said b r ≡ Some p → Granted q r p (used (after b r))
   pub sound-places-share-no-byte : q .sound ≡ true → (r : Request) (p : Place) → said b r ≡ Some p →
-    (later : List Request) (s : Request) (z : Place) → said (past (after b r) later) s ≡ Some z → PlacesApart p z
+      (later : List Request) (s : Request) (z : Place) → said (past (after b r) later) s ≡ Some z → PlacesApart p z
   pub reach-never-falls : (r : Request) → used b ≤ used (after b r)
   pub reach-is-at-most-4096 : used b ≤ 4096
   pub reach-is-0-without-a-block : q .block ≡ false → used b ≡ 0

@@ -1,3 +1,4 @@
 pub mod Books
 pub mod Lawful
 pub mod Faults
+pub mod Cursors

@@ -2,17 +2,19 @@
 ghost use mathlib.Core.List.{[]};
 ghost use mathlib.Core.Path.{_≡_};
 ghost use Rattle.std.specs.Results.{okPart};
-ghost use Rattle.std.specs.Vec.{refused};
+ghost use Rattle.std.specs.Vec.{made, refused};
 ghost use Rattle.std.specs.Written.{decimal};
 ghost use Rattle.std.specs.declared.option.Option.the-variants.{Some};
+ghost use Rattle.values.specs.Sizes.{bytes};
 ghost use Rattle.stage.specs.Books.{Book, Blame, Profile, said, used, after};
-ghost use Rattle.stage.specs.Faults.{parameterFault};
+ghost use Rattle.stage.specs.Faults.{faultOf, parameterFault, widthFault};
 ghost use Rattle.stage.specs.Lawful.{Lawful};
 use place::pieces::Place;
 use place::registers::RegisterSet;
-use place::requests::Request;
 use std::error::Error;
 use std::fmt;
+use values::requests::Request;
+use values::sizes::Size;
 
 // A request that was not granted.
 #[derive(Clone, Copy, PartialEq, Eq, Debug)]
@@ -44,6 +46,19 @@ pub impl fmt::Display for ParameterFault as ParameterFaultDisplay {
 }
 
 pub impl Error for ParameterFault as ParameterFaultError {}
+
+// The size of n bytes, where it is one that a layer can test for or raise to.
+pub fn raised_size(n: u8) -> Result<Size, ParameterFault>
+    ensures refused_unless_2_4_or_8 { λ r. ⌜ faultOf r ≡ widthFault n ⌝ }
+    ensures of_n_bytes { λ r. ⌜ made r (λ s. bytes s ≡ n) ⌝ }
+{
+    match n {
+        2 => Ok(Size::Two),
+        4 => Ok(Size::Four),
+        8 => Ok(Size::Eight),
+        _ => Err(ParameterFault::Range),
+    }
+}
 
 pub trait Stage {
     // What it answers and uses from here on.

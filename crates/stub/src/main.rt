@@ -1,31 +1,29 @@
 // Places signatures by built-in piles and prints where each value goes.
-use bottoms::bits::Bits;
-use bottoms::bits::BitsStage;
-use bottoms::count::Count;
-use bottoms::count::CountStage;
-use bottoms::up::Up;
-use bottoms::up::UpStage;
-use layers::choose::Choose;
-use layers::choose::ChooseStage;
-use layers::over::Over;
-use layers::over::OverStage;
-use layers::raise::Raise;
-use layers::raise::RaiseStage;
-use layers::shut::Shut;
-use layers::shut::ShutStage;
-use layers::tests::Test;
-use layers::widen::Widen;
-use layers::widen::WidenStage;
-use place::kinds::Kind;
+use adjust::Adjust;
+use adjust::AdjustStage;
+use banks::bits::Bits;
+use banks::bits::BitsStage;
+use banks::count::Count;
+use banks::count::CountStage;
+use blocks::up::Up;
+use blocks::up::UpStage;
+use conditions::Test;
 use place::pieces::PieceDisplay;
 use place::pieces::Place;
-use place::sizes::Size;
-use place::types::ValueTypeDisplay;
-use place::value_type::ValueType;
+use shut::Shut;
+use shut::ShutStage;
+use sides::choose::Choose;
+use sides::choose::ChooseStage;
+use sides::over::Over;
+use sides::over::OverStage;
 use stage::ParameterFault;
+use stage::ParameterFaultError;
 use stage::Stage;
 use std::error::AnyError;
-use stage::ParameterFaultError;
+use values::kinds::Kind;
+use values::sizes::Size;
+use values::types::ValueTypeDisplay;
+use values::value_type::ValueType;
 
 // One value's place: its pieces, or that it was refused.
 fn show_place<S: Stage>(rt: &LibcRuntime, pile: &mut S, value: ValueType) -> Result<(), AnyError> {
@@ -52,21 +50,25 @@ fn show<S: Stage + Drop>(rt: &LibcRuntime, mut pile: S, signature: &str) -> Resu
 }
 
 // Every value at least 4 bytes wide; registers first, then the block.
-fn wide() -> Result<Widen<Over<Bits, Up>>, ParameterFault> {
+fn wide() -> Result<Adjust<Over<Bits, Up>>, ParameterFault> {
     let pile = Over::new(Bits::new(&[0, 1, 2, 3])?, Up::new(8)?);
-    Widen::new(4, pile)
+    Adjust::widen(4, pile)
 }
 
 // Floats in registers of their own, and the rest in the block, aligned to 4 at least.
-fn floats_apart() -> Result<Choose<Count, Raise<Up>>, ParameterFault> {
-    let rest = Raise::new(4, Up::new(8)?)?;
+fn floats_apart() -> Result<Choose<Count, Adjust<Up>>, ParameterFault> {
+    let rest = Adjust::raise(4, Up::new(8)?)?;
     Ok(Choose::new(Test::of_kinds(&[Kind::Float])?, Count::new(&[4, 5])?, rest))
 }
 
 fn run(rt: &LibcRuntime) -> Result<(), AnyError> {
     show(rt, wide()?, "u1 s8 u2")?;
     show(rt, wide()?, "f8 f8 u1 s8")?;
-    show(rt, Over::new(Shut::new(Bits::new(&[0, 1])?), Up::new(8)?), "u4 u8 u4")?;
+    show(
+        rt,
+        Over::new(Shut::new(Bits::new(&[0, 1])?), Up::new(8)?),
+        "u4 u8 u4",
+    )?;
     show(rt, Over::new(Bits::new(&[0, 1])?, Up::new(8)?), "u4 u8 u4")?;
     show(rt, Count::new(&[0, 1])?, "u8 u4")?;
     show(rt, floats_apart()?, "f4 u1 u2 f4 f4 a4")

@@ -1,0 +1,4 @@
+mod Moves
+mod Gathered
+mod Banks
+mod Grants

@@ -1,0 +1,2 @@
+// The block: a stage that gives bytes of the stack.
+pub mod up;

@@ -1,6 +1,0 @@
-mod Moves
-mod Gathered
-mod Cursors
-mod Banks
-mod Blocks
-mod Grants

@@ -1,3 +1,0 @@
-mod TwoSides
-mod Layers
-mod GatheredKinds

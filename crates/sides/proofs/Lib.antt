@@ -1,0 +1,2 @@
+mod TwoSides
+mod Layers

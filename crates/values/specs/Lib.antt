@@ -1,0 +1,4 @@
+pub mod Sizes
+pub mod Kinds
+pub mod Types
+pub mod Requests
