@@ -1,7 +1,7 @@
 // A bottom that refuses every request.
 ghost use mathlib.Core.Path.{_≡_};
 ghost use Rattle.stage.specs.Books.{builtIn};
-ghost use Rattle.checks.specs.Never.{neverBook, neverProfile};
+ghost use Rattle.stage_checks.specs.Never.{neverBook, neverProfile};
 use place::pieces::Place;
 use place::registers::RegisterSet;
 use stage::Refusal;

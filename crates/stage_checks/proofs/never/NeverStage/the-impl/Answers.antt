@@ -5,7 +5,7 @@ use Rattle.std.specs.declared.option.Option.{Option}
 use Rattle.std.specs.declared.option.Option.the-variants.{Some, None}
 use Rattle.place.proofs.Sets.{none-in-empty}
 use Rattle.place.specs.declared.pieces.Place.{Place}
-use Rattle.checks.proofs.never.NeverStage.the-impl.Needs as need
+use Rattle.stage_checks.proofs.never.NeverStage.the-impl.Needs as need
 
 none-given : (X : Type 0) (p : Place) → _≡_ {A = Option Place} None (Some p) → X
 none-given X p e = let w : _≡_ {A = ℕ} 0 1 = cc in absurd (omega arith)

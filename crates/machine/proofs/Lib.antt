@@ -1,0 +1,5 @@
+pub mod Runs
+pub mod Straight
+pub mod Calls
+pub mod Frames
+pub mod Stuck
