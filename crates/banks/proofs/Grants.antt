@@ -22,7 +22,7 @@ use Rattle.values.specs.Sizes.{bytes, largerOf}
 use Rattle.values.specs.declared.requests.Request.{Request}
 use Rattle.values.specs.declared.sizes.Size.{Size}
 use Rattle.values.specs.declared.sizes.Size.the-variants.{One, Two, Four, Eight}
-use Rattle.banks.specs.Banks.{register, countMove, countBook, bitsMove, bitsStart}
+use Rattle.banks.specs.Banks.{register, countMove, countBook, bitsDoes, bitsStart}
 use Rattle.banks.specs.Grants.{ofFour, fours, StandsAt, Gives-registers-in-order, Starts-at-multiples-of-the-alignment}
 use Rattle.banks.proofs.Banks.{bits-cases}
 
@@ -58,9 +58,6 @@ module _ (xs : List ℕ) where
 
   pub gives-registers-in-order : Gives-registers-in-order xs
   gives-registers-in-order rs = from rs 0
-
-abbrev bitsDoes : List ℕ → ℕ → Request → Move
-bitsDoes xs n r = bitsMove xs n (bitsStart n r) (r .width)
 
 -- the bytes in the list before a register at index c / 4
 whole : (c : ℕ) → c % 4 ≡ 0 → 4 * (c / 4) ≡ c

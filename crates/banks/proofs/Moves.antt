@@ -1,13 +1,11 @@
 -- What a bank does at a cursor, by the table that holds its registers.
 use mathlib.Core.Path.{_≡_, refl, ap, sym, _∙_}
-use mathlib.Core.Bool.{true, false, cond}
 use mathlib.Core.List.{List}
 use Prim.Native.Nat.{ℕ, _+_, _*_, _/_, _≤_, _<_}
 use native.Mathlib.Omega.{arith}
-use lib.Dec.{leb, ltb}
 use lib.ListN.{length, getD, take}
 use Rattle.std.proofs.shelf.Lists.{getD-take}
-use Rattle.std.proofs.shelf.Tests.{cond-true, cond-false, lt-ltb, le-ltb, le-leb, lt-leb}
+use Rattle.std.proofs.shelf.Tests.{cond-true, lt-ltb, le-leb}
 use Rattle.place.specs.declared.pieces.Piece.the-variants.{Register}
 use Rattle.place.specs.declared.pieces.Place.the-variants.{Single, Double}
 use Rattle.values.specs.Requests.{raised}
@@ -15,25 +13,16 @@ use Rattle.values.specs.Sizes.{bytes, roundUp}
 use Rattle.values.specs.declared.requests.Request.{Request}
 use Rattle.values.specs.declared.sizes.Size.{Size}
 use Rattle.values.specs.declared.sizes.Size.the-variants.{One, Two, Four, Eight}
-use Rattle.stage.specs.Cursors.{Move, grant, refuse}
-use Rattle.banks.specs.Banks.{register, registerPair, countMove, bitsMove, bitsStart}
+use Rattle.stage.specs.Cursors.{Move, grant}
+use Rattle.banks.specs.Banks.{countMove, bitsMove, bitsStart}
 
 module _ (table : List ℕ) (len : ℕ) (long : length (take len table) ≡ len) where
   same-at : (i : ℕ) → i < len → getD (take len table) i 0 ≡ getD table i 0
   same-at i h = getD-take len table i 0 h
 
-  pub count-full : (n : ℕ) → len ≤ n → countMove (take len table) n Four ≡ refuse n
-  count-full n h = cond-false _ _ _ (le-ltb n (length (take len table)) (omega (arith, long)))
-
   pub count-next : (n : ℕ) → n < len → countMove (take len table) n Four ≡ grant (Single (Register (getD table n 0))) (n + 1)
   count-next n h =
       cond-true _ _ _ (lt-ltb n (length (take len table)) (omega (arith, long))) ∙ ap (λ (x : ℕ). grant (Single (Register x)) (n + 1)) (same-at n h)
-
-  pub four-full : (n c : ℕ) → 4 * len < c + 4 → bitsMove (take len table) n c Four ≡ refuse n
-  four-full n c h = cond-false _ _ _ (lt-leb (c + 4) (4 * length (take len table)) (omega (arith, long)))
-
-  pub eight-full : (n c : ℕ) → 4 * len < c + 8 → bitsMove (take len table) n c Eight ≡ refuse n
-  eight-full n c h = cond-false _ _ _ (lt-leb (c + 8) (4 * length (take len table)) (omega (arith, long)))
 
   pub four-next : (n c : ℕ) → c + 4 ≤ 4 * len → bitsMove (take len table) n c Four ≡ grant (Single (Register (getD table (c / 4) 0))) (c + 4)
   four-next n c h =

@@ -36,8 +36,11 @@ countMove xs n Two = refuse n
 countMove xs n Four = cond (ltb n (length xs)) (grant (register xs n) (n + 1)) (refuse n)
 countMove xs n Eight = refuse n
 
+abbrev pub countDoes : List ℕ → ℕ → Request → Move
+countDoes xs n r = countMove xs n (r .width)
+
 abbrev pub countBook : List ℕ → ℕ → Book
-countBook xs = bottomBook (λ n r. countMove xs n (r .width)) (λ n. 0)
+countBook xs = bottomBook (countDoes xs) (λ n. 0)
 
 abbrev pub countProfile : List ℕ → Profile
 countProfile xs = bankProfile (countBook xs 0) xs
@@ -53,8 +56,11 @@ bitsMove xs n c Eight = cond (leb (c + 8) (4 * length xs)) (grant (registerPair 
 abbrev pub bitsStart : ℕ → Request → ℕ
 bitsStart n r = roundUp (bytes (largerOf Four (r .alignment))) n
 
+abbrev pub bitsDoes : List ℕ → ℕ → Request → Move
+bitsDoes xs n r = bitsMove xs n (bitsStart n r) (r .width)
+
 abbrev pub bitsBook : List ℕ → ℕ → Book
-bitsBook xs = bottomBook (λ n r. bitsMove xs n (bitsStart n r) (r .width)) (λ n. 0)
+bitsBook xs = bottomBook (bitsDoes xs) (λ n. 0)
 
 abbrev pub bitsProfile : List ℕ → Profile
 bitsProfile xs = bankProfile (bitsBook xs 0) xs

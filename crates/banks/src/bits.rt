@@ -2,12 +2,14 @@
 ghost use mathlib.Core.Path.{_≡_};
 ghost use Prim.Native.Nat.{_*_, _≤_};
 ghost use lib.ListN.{take};
+ghost use Rattle.std.specs.Options.{Cases as BySome};
 ghost use Rattle.std.specs.Vec.{made};
+ghost use Rattle.stage.specs.Cursors.{grant, refuse};
 ghost use Rattle.stage.specs.Books.{builtIn};
 ghost use Rattle.stage.specs.Faults.{faultOf};
 ghost use Rattle.banks.specs.Grants.{Starts-at-multiples-of-the-alignment};
 ghost use Rattle.banks.specs.Lists.{listFault};
-ghost use Rattle.banks.specs.Banks.{bitsBook, bitsProfile};
+ghost use Rattle.banks.specs.Banks.{bitsDoes, bitsBook, bitsProfile};
 use crate::register_list::RegisterList;
 use place::pieces::Piece;
 use place::pieces::Place;
@@ -35,6 +37,27 @@ impl Bits {
         let list = RegisterList::new(registers)?;
         Ok(Bits { list, cursor: 0 })
     }
+
+    // The place for a request, and where the cursor stands behind it.
+    fn find(&self, request: Request) -> Option<(Place, u16)>
+        ensures the_move_of_its_book { λ r. ⌜ BySome r (bitsDoes (take (now (self .entry) .list .len) (now (self .entry) .list .registers)) (now (self .entry) .cursor) request ≡ refuse (now (self .entry) .cursor)) (λ a. (bitsDoes (take (now (self .entry) .list .len) (now (self .entry) .list .registers)) (now (self .entry) .cursor) request ≡ grant (a .0) (a .1)) × (a .1 ≤ 4 * (now (self .entry) .list .len))) ⌝ }
+    {
+        let start = request.raised(Size::Four).alignment.round_up(self.cursor);
+        let room = 4 * self.list.len as u32;
+        let i = start as usize / 4;
+        match request.width {
+            Size::Four if start + 4 <= room => {
+                let low = Piece::Register(self.list.registers[i]);
+                Some((Place::Single(low), (start + 4) as u16))
+            }
+            Size::Eight if start + 8 <= room => {
+                let low = Piece::Register(self.list.registers[i]);
+                let high = Piece::Register(self.list.registers[i + 1]);
+                Some((Place::Double(low, high), (start + 8) as u16))
+            }
+            _ => None,
+        }
+    }
 }
 
 pub impl Stage for Bits as BitsStage {
@@ -45,29 +68,11 @@ pub impl Stage for Bits as BitsStage {
     ghost profile = { λ s. bitsProfile (take (s .list .len) (s .list .registers)) };
 
     fn place(&mut self, request: Request) -> Result<Place, Refusal> {
-        let start = request.raised(Size::Four).alignment.round_up(self.cursor);
-        let room = 4 * self.list.len as u32;
-        let i = start as usize / 4;
-        match request.width {
-            Size::Four => {
-                if start + 4 > room {
-                    return Err(Refusal { line: 0 });
-                }
-                self.cursor = (start + 4) as u16;
-                Ok(Place::Single(Piece::Register(self.list.registers[i])))
-            }
-            Size::Eight => {
-                if start + 8 > room {
-                    return Err(Refusal { line: 0 });
-                }
-                self.cursor = (start + 8) as u16;
-                Ok(Place::Double(
-                    Piece::Register(self.list.registers[i]),
-                    Piece::Register(self.list.registers[i + 1]),
-                ))
-            }
-            Size::One | Size::Two => Err(Refusal { line: 0 }),
-        }
+        let Some((place, end)) = self.find(request) else {
+            return Err(Refusal { line: 0 });
+        };
+        self.cursor = end;
+        Ok(place)
     }
 
     fn clear(&mut self) {

@@ -1,13 +1,15 @@
 // A bank that gives one register after the other.
 ghost use mathlib.Core.Path.{_≡_};
-ghost use Prim.Native.Nat.{_≤_};
+ghost use Prim.Native.Nat.{_+_, _≤_, _<_};
 ghost use lib.ListN.{take};
+ghost use Rattle.std.specs.Options.{Cases as BySome};
 ghost use Rattle.std.specs.Vec.{made};
+ghost use Rattle.stage.specs.Cursors.{grant, refuse};
 ghost use Rattle.stage.specs.Books.{builtIn};
 ghost use Rattle.stage.specs.Faults.{faultOf};
 ghost use Rattle.banks.specs.Grants.{Gives-registers-in-order};
 ghost use Rattle.banks.specs.Lists.{listFault};
-ghost use Rattle.banks.specs.Banks.{countBook, countProfile};
+ghost use Rattle.banks.specs.Banks.{countDoes, countBook, countProfile};
 use crate::register_list::RegisterList;
 use place::pieces::Piece;
 use place::pieces::Place;
@@ -34,6 +36,18 @@ impl Count {
         let list = RegisterList::new(registers)?;
         Ok(Count { list, next: 0 })
     }
+
+    // The place for a request: the next register.
+    fn find(&self, request: Request) -> Option<Place>
+        ensures the_move_of_its_book { λ r. ⌜ BySome r (countDoes (take (now (self .entry) .list .len) (now (self .entry) .list .registers)) (now (self .entry) .next) request ≡ refuse (now (self .entry) .next)) (λ p. (countDoes (take (now (self .entry) .list .len) (now (self .entry) .list .registers)) (now (self .entry) .next) request ≡ grant p (now (self .entry) .next + 1)) × (now (self .entry) .next < now (self .entry) .list .len)) ⌝ }
+    {
+        match request.width {
+            Size::Four if self.next < self.list.len => {
+                Some(Place::Single(Piece::Register(self.list.registers[self.next])))
+            }
+            _ => None,
+        }
+    }
 }
 
 pub impl Stage for Count as CountStage {
@@ -44,17 +58,11 @@ pub impl Stage for Count as CountStage {
     ghost profile = { λ s. countProfile (take (s .list .len) (s .list .registers)) };
 
     fn place(&mut self, request: Request) -> Result<Place, Refusal> {
-        let i = self.next;
-        match request.width {
-            Size::Four => {
-                if i >= self.list.len {
-                    return Err(Refusal { line: 0 });
-                }
-                self.next = i + 1;
-                Ok(Place::Single(Piece::Register(self.list.registers[i])))
-            }
-            Size::One | Size::Two | Size::Eight => Err(Refusal { line: 0 }),
-        }
+        let Some(place) = self.find(request) else {
+            return Err(Refusal { line: 0 });
+        };
+        self.next += 1;
+        Ok(place)
     }
 
     fn clear(&mut self) {
