@@ -1,6 +1,8 @@
-// Places signatures by built-in piles and prints where each value goes; then runs a small call on the machine.
+// Places signatures by built-in piles and prints where each value goes, on two sides with unlike pasts too; then runs a
+// small call on the machine.
 use adjust::Adjust;
 use adjust::AdjustStage;
+use allocation::opened::Open;
 use banks::bits::Bits;
 use banks::bits::BitsStage;
 use banks::count::Count;
@@ -8,6 +10,8 @@ use banks::count::CountStage;
 use blocks::up::Up;
 use blocks::up::UpStage;
 use conditions::Test;
+use histories::asked::Asked;
+use histories::plays::play;
 use machine::Instruction;
 use machine::Machine;
 use machine::Outcome;
@@ -63,6 +67,52 @@ fn wide() -> Result<Adjust<Over<Bits, Up>>, ParameterFault> {
 fn floats_apart() -> Result<Choose<Count, Adjust<Up>>, ParameterFault> {
     let rest = Adjust::raise(4, Up::new(8)?)?;
     Ok(Choose::new(Test::of_kinds(&[Kind::Float])?, Count::new(&[4, 5])?, rest))
+}
+
+fn asked(kind: Kind, width: u8) -> Asked {
+    Asked {
+        kind,
+        width,
+        alignment: width,
+    }
+}
+
+// The pile of the sides below: registers until one is refused, then the block.
+fn convention() -> Result<Over<Shut<Bits>, Up>, ParameterFault> {
+    Ok(Over::new(Shut::new(Bits::new(&[0, 1])?), Up::new(8)?))
+}
+
+// A line for a side after its past: its places for u4 u8 u4.
+fn show_side<P: Stage + Drop>(
+    rt: &LibcRuntime,
+    side: &str,
+    mut allocation: Open<P>,
+) -> Result<(), AnyError> {
+    print!(rt, "{side}: ")?;
+    for width in [4, 8, 4] {
+        match allocation.place(Kind::Unsigned, width, width) {
+            Ok(Place::Single(low)) => print!(rt, "{low}; ")?,
+            Ok(Place::Double(low, high)) => print!(rt, "{low} {high}; ")?,
+            Err(_) => print!(rt, "refused; ")?,
+        }
+    }
+    let held = allocation.held().len();
+    println!(rt, "held {held}")?;
+    Ok(())
+}
+
+// Two sides of one convention that have lived through unlike pasts place the same signature alike.
+fn show_sides(rt: &LibcRuntime) -> Result<(), AnyError> {
+    // The bench's shut had closed, and something that is no type was refused.
+    let closed = [
+        asked(Kind::Unsigned, 1),
+        asked(Kind::Float, 2),
+        asked(Kind::Unsigned, 4),
+    ];
+    let bench = play(convention()?, &[&closed], &[]);
+    let core = play(convention()?, &[&[], &[asked(Kind::Signed, 8)]], &[]);
+    show_side(rt, "bench after a round that closed its shut", bench)?;
+    show_side(rt, "core after two other rounds", core)
 }
 
 fn show_registers(rt: &LibcRuntime, registers: &[u32; 32]) -> Result<(), AnyError> {
@@ -131,6 +181,7 @@ fn run(rt: &LibcRuntime) -> Result<(), AnyError> {
     show(rt, Over::new(Bits::new(&[0, 1])?, Up::new(8)?), "u4 u8 u4")?;
     show(rt, Count::new(&[0, 1])?, "u8 u4")?;
     show(rt, floats_apart()?, "f4 u1 u2 f4 f4 a4")?;
+    show_sides(rt)?;
     show_call(rt)
 }
 
