@@ -1,0 +1,16 @@
+pub mod Memory
+pub mod Widths
+pub mod Leading
+pub mod Steps
+pub mod Places
+pub mod Filling
+pub mod Copying
+pub mod Storing
+pub mod Accepting
+pub mod Bodies
+pub mod Saving
+pub mod Calling
+pub mod Called
+pub mod Parts
+pub mod Deliveries
+pub mod Running

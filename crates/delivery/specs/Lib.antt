@@ -1,0 +1,4 @@
+pub mod Widening
+pub mod Code
+pub mod Bodies
+pub mod Delivering

@@ -1,0 +1,3 @@
+mod Emits
+mod Saves
+mod Tested
