@@ -1,5 +1,3 @@
 mod Emits
 mod Saves
 mod Tested
-mod Blocked
-mod Lengths
