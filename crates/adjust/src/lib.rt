@@ -1,4 +1,6 @@
 // A layer that asks the stage below for at least a certain width, or a certain alignment.
+#![tactic(auto)]
+
 ghost use Rattle.std.specs.Prelude.{◌≡◌, IfOk};
 ghost use Rattle.stage.specs.Books.{Cleared};
 ghost use Rattle.stage.specs.Faults.{fault_of, width_fault};

@@ -1,4 +1,6 @@
 // A pile in use: the places granted for one signature, open to more of them or frozen.
+#![tactic(auto)]
+
 pub mod faults;
 pub mod frozen;
 pub mod held;

@@ -1,4 +1,6 @@
 // What allocations answer, on cases that were worked out by hand.
+#![tactic(auto)]
+
 #[cfg(test)]
 mod tests {
     use adjust::Adjust;

@@ -1,4 +1,6 @@
 // The banks: stages that give registers of their own.
+#![tactic(auto)]
+
 pub mod bits;
 pub mod count;
 mod register_list;

@@ -1,4 +1,6 @@
 // One call from bench to core: the signature placed on both sides, both codes written, and the run.
+#![tactic(auto)]
+
 pub mod calls;
 mod placing;
 pub mod ran;

@@ -1,4 +1,6 @@
 // Calls on cases that were worked out by hand.
+#![tactic(auto)]
+
 #[cfg(test)]
 mod tests {
     use banks::count::Count;

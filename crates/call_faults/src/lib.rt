@@ -1,4 +1,6 @@
 // Why no call is made.
+#![tactic(auto)]
+
 ghost use Rattle.std.specs.Prelude.{◌≡◌};
 ghost use Rattle.call_faults.specs.declared.CallFault.TheVariants.{Placement, Code, Run};
 

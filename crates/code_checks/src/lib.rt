@@ -1,4 +1,6 @@
 // The code of caller and callee, on cases that were worked out by hand.
+#![tactic(auto)]
+
 #[cfg(test)]
 mod tests {
     use adjust::Adjust;

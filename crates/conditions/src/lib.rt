@@ -1,4 +1,6 @@
 // The tests by which `choose` tells requests apart.
+#![tactic(auto)]
+
 ghost use Rattle.std.specs.Prelude.{◌≡◌, IfOk};
 ghost use Rattle.values.specs.Sizes.{bytes};
 ghost use Rattle.stage.specs.Faults.{fault_of, width_fault};

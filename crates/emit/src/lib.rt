@@ -1,4 +1,6 @@
 // The code of a call, written as instruction records into lists that are lent.
+#![tactic(auto)]
+
 mod body;
 pub mod callee;
 pub mod caller;

@@ -1,4 +1,6 @@
 // A register machine: 32 registers of 32 bits, a memory of bytes that is lent to it, and two lists of instructions.
+#![tactic(auto)]
+
 ghost use Rattle.std.specs.Prelude.{◌≡◌, ◌+◌, ◌-◌, ◌^◌, ◌<◌, ◌≤◌, true, length, is_some, IfOk, if◌then◌else◌, Some, None, OnErr, OnOk, OnSome, nat_lt};
 ghost use Rattle.std.specs.List.{slice_get};
 ghost use Rattle.machine.specs.Machine.{address, bytes_of, loaded, stored, sign_of, contents_of, state_of, effect, next, or_same, instruction_at, runs, outcome_of, fault_in};

@@ -1,4 +1,6 @@
 // What the machine does on cases that were worked out by hand.
+#![tactic(auto)]
+
 #[cfg(test)]
 mod tests {
     use machine::{Instruction, Machine, Mode, Outcome, RunFault, Side, Width};

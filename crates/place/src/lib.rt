@@ -1,3 +1,5 @@
 // Where values are put: registers and bytes of the block.
+#![tactic(auto)]
+
 pub mod pieces;
 pub mod registers;

@@ -1,4 +1,6 @@
 // A stage that is asked no more once it has refused, until it is cleared.
+#![tactic(auto)]
+
 ghost use Rattle.std.specs.Prelude.{◌≡◌, false};
 ghost use Rattle.stage.specs.Books.{Cleared};
 ghost use Rattle.shut.specs.Shutting.{shut_book, shut_blame, shut_profile};

@@ -1,4 +1,6 @@
 // The layers over two stages.
+#![tactic(auto)]
+
 pub mod choose;
 pub mod over;
 mod pair;

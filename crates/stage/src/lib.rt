@@ -1,4 +1,6 @@
 // The interface of every stage: an allocator that answers requests with places.
+#![tactic(auto)]
+
 ghost use Rattle.std.specs.Prelude.{◌≡◌, [], IfOk, IfErr, Some, decimal};
 ghost use Rattle.std.specs.Result.{result_ok};
 ghost use Rattle.values.specs.Sizes.{bytes};

@@ -1,5 +1,7 @@
 // Places signatures by built-in piles and prints where each value goes, on two sides with unlike pasts too; then makes a
 // call from one side to the other.
+#![tactic(auto)]
+
 mod crossing;
 mod shown;
 

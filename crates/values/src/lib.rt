@@ -1,4 +1,6 @@
 // Values as a calling convention sees them: kinds, widths, alignments, types and requests.
+#![tactic(auto)]
+
 pub mod kinds;
 pub mod requests;
 pub mod sizes;

@@ -1,4 +1,6 @@
 // Calls that were worked out by hand, and the piles that they are asked of.
+#![tactic(auto)]
+
 pub mod cases;
 mod piles;
 mod tables;
