@@ -1,10 +1,10 @@
 // Why an allocation grants no place.
-ghost use Rattle.std.specs.Prelude.{◌≡◌, Decides};
+ghost use Rattle.std.specs.Prelude.{◌≡◌, ◌==◌, ◌&&◌};
+ghost use Rattle.std.specs.Bool.{Decides};
 ghost use Rattle.allocation.specs.Faults.{cause_number, placement_fault};
 ghost use Rattle.allocation.specs.declared.faults.Cause.TheVariants.{Refused};
 ghost use Rattle.std.specs.Cmp.Rules.{comparing};
 ghost use Rattle.std.proofs.Common.{rules};
-ghost use Rattle.std.specs.Cmp as Keys;
 
 use stage::Refusal;
 
@@ -49,11 +49,14 @@ impl Cause {
 
 // The line of a refusal is no part of it.
 impl PartialEq for PlacementFault {
-    ghost equals = { λ a b r. Decides r (placement_fault a ≡ placement_fault b) };
+    ghost eq = { λ a b. cause_number a.cause == cause_number b.cause && a.position == b.position };
 
-    ghost laws = { Keys.partial_equiv_from_equiv (Prim.search (comparing, rules)) };
+    ghost laws = { Prim.search (comparing, rules) };
 
-    fn eq(&self, other: &PlacementFault) -> bool {
+    fn eq(&self, other: &PlacementFault) -> bool
+        ensures number_and_position_are_compared { result ≡ ((cause_number self.now.cause == cause_number other.now.cause) && (self.now.position == other.now.position)) }
+        ensures equal_by_number_and_position { Decides result (placement_fault self.now ≡ placement_fault other.now) }
+    {
         self.cause.number() == other.cause.number() && self.position == other.position
     }
 }

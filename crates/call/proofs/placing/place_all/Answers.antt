@@ -12,7 +12,7 @@ returns-in_err-place_list g c =
     let f = c.in_err-place_list.field-0.0 in
     let one = c.in_err-place_list.ensures in
     record {
-      bench_then_core_up_to_the_first_refused = subst (ComesOf _ _) (sym (ap placing_fault (turned c.from-residual.result f c.from-residual.ensures)))
+      bench_then_core_up_to_the_first_refused = subst (ComesOf _ _) (sym (ap placing_fault (turned c.from_residual.result f c.from_residual.ensures)))
           (stops_at_first _ _ _ _ _ _ _ _ _ _ (placement_fault f) one.asked_up_to_the_first_refused one.fault_of_the_first_refused refl refl refl);
     }
 
@@ -22,7 +22,7 @@ returns-in_err-place_list-2 g c =
     let one = c.in_ok-place_list.ensures in
     let two = c.in_err-place_list-2.ensures in
     record {
-      bench_then_core_up_to_the_first_refused = subst (ComesOf _ _) (sym (ap placing_fault (turned c.returns-in_err-place_list-2.result f c.returns-in_err-place_list-2.ensures)))
+      bench_then_core_up_to_the_first_refused = subst (ComesOf _ _) (sym (ap placing_fault (turned c.from_residual-in_err-place_list-2.result f c.from_residual-in_err-place_list-2.ensures)))
           (stops_at_second _ _ _ _ _ _ _ _ _ _ (placement_fault f) one.asked_up_to_the_first_refused one.fault_of_the_first_refused two.asked_up_to_the_first_refused two.fault_of_the_first_refused refl refl);
     }
 
@@ -33,7 +33,7 @@ returns-in_err-place_list-3 g c =
     let two = c.in_ok-place_list-2.ensures in
     let three = c.in_err-place_list-3.ensures in
     record {
-      bench_then_core_up_to_the_first_refused = subst (ComesOf _ _) (sym (ap placing_fault (turned c.returns-in_err-place_list-3.result f c.returns-in_err-place_list-3.ensures)))
+      bench_then_core_up_to_the_first_refused = subst (ComesOf _ _) (sym (ap placing_fault (turned c.from_residual-in_err-place_list-3.result f c.from_residual-in_err-place_list-3.ensures)))
           (stops_at_third _ _ _ _ _ _ _ _ _ _ (placement_fault f) one.asked_up_to_the_first_refused one.fault_of_the_first_refused two.asked_up_to_the_first_refused two.fault_of_the_first_refused three.asked_up_to_the_first_refused three.fault_of_the_first_refused refl);
     }
 

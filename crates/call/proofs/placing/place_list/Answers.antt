@@ -21,7 +21,7 @@ returns-in_err-place g c =
     let q = get_or qs i unused in
     let f = c.in_err-place.field-0.0 in
     let by = c.in_err-place.ensures in
-    let is = turned c.from-residual.result f c.from-residual.ensures in
+    let is = turned c.from_residual.result f c.from_residual.ensures in
     record {
       asked_up_to_the_first_refused =
           by.moves_by_the_rules ∙ refused_stops s q rest (placement_fault f) by.answers_by_the_rules ∙ sym (at_drop_more (placed_until s) qs i unused c.loop-asked-test.true) ∙ c.loop-asked.invariant.0;

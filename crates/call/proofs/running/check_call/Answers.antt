@@ -9,10 +9,10 @@ use Rattle.call.proofs.running.check_call.Goals as goal
 
 pub returns-in_err-callee_size : goal.returns-in_err-callee_size
 returns-in_err-callee_size g c =
-    let x = c.returns-in_err-callee_size.result in
+    let x = c.from_residual-in_err-callee_size.result in
     let f = c.in_err-callee_size.field-0.0 in
     record {
-      first_fault_of_caller_callee_or_memory = ap fault_in (turned x (Code f) c.returns-in_err-callee_size.ensures)
+      first_fault_of_caller_callee_or_memory = ap fault_in (turned x (Code f) c.from_residual-in_err-callee_size.ensures)
           ∙ next_decides _ _ _ c.in_ok-caller_size.ensures.lowest_number_first (ap (λ o. first_of o (memory_fault c.args.room.memory)) c.in_err-callee_size.ensures.lowest_number_first);
     }
 

@@ -19,7 +19,7 @@ returns-in_err-wanted g c =
     let count = held_count c.args.self.now.held in
     let stopped = c.in_err-wanted.ensures in
     let cause = c.in_err-wanted.field-0.0 in
-    let owed = before_the_pile s c.args.kind c.args.width c.args.alignment c.args.self.now.held.len count cause c.from-residual.result (turned c.from-residual.result cause c.from-residual.ensures) stopped.refusals_have_no_line (stopped.lowest_number_first ∙ through g (goal.at.returns-in_err-wanted g c).After-admit) in
+    let owed = before_the_pile s c.args.kind c.args.width c.args.alignment c.args.self.now.held.len count cause c.from_residual.result (turned c.from_residual.result cause c.from_residual.ensures) stopped.refusals_have_no_line (stopped.lowest_number_first ∙ through g (goal.at.returns-in_err-wanted g c).After-admit) in
     record { answers_by_the_rules = owed.answer; pile_refusal_has_the_blamed_line = owed.line; moves_by_the_rules = owed.moved }
 
 pub returns-in_err-place : goal.returns-in_err-place
@@ -28,8 +28,8 @@ returns-in_err-place g c =
     let count = held_count c.args.self.now.held in
     let pile = c.in_err-place.ensures in
     let refusal = c.in_err-place.field-0.0 in
-    let x = c.returns-in_err-place.result in
-    let owed = by_the_pile s c.args.kind c.args.width c.args.alignment c.args.self.now.held.len count (request_for c.in_ok-wanted.wanted) (c.in_ok-wanted.ensures.lowest_number_first ∙ through g (goal.at.returns-in_err-place g c).After-admit) _ _ _ pile.profile_stays pile.book_moves_past_the_request pile.blame_moves_past_the_request refusal x (turned x (Refused refusal) c.returns-in_err-place.ensures) pile.answers_by_the_book pile.refusal_has_the_blamed_line in
+    let x = c.from_residual-in_err-place.result in
+    let owed = by_the_pile s c.args.kind c.args.width c.args.alignment c.args.self.now.held.len count (request_for c.in_ok-wanted.wanted) (c.in_ok-wanted.ensures.lowest_number_first ∙ through g (goal.at.returns-in_err-place g c).After-admit) _ _ _ pile.profile_stays pile.book_moves_past_the_request pile.blame_moves_past_the_request refusal x (turned x (Refused refusal) c.from_residual-in_err-place.ensures) pile.answers_by_the_book pile.refusal_has_the_blamed_line in
     record { answers_by_the_rules = owed.answer; pile_refusal_has_the_blamed_line = owed.line; moves_by_the_rules = owed.moved }
 
 pub returns : goal.returns

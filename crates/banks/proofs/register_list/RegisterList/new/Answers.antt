@@ -4,11 +4,17 @@ use Rattle.banks.specs.Lists.{distinct, set_of}
 use Rattle.banks.proofs.Gathered.{front}
 use Rattle.banks.proofs.register_list.RegisterList.new.Goals as goal
 
-pub invariant-of-result : goal.invariant-of-result
-invariant-of-result c =
+pub invariant_of-result : goal.invariant_of-result
+invariant_of-result c =
     let same = front c.args.list.now c.copy_from_slice.new.self _ c.copy_from_slice.ensures.after in
     let whole = c.in-Some.ensures.its_set_or_none in
-    (c.if-len-lt1.false, (c.if-len-gt16.false, (ap length same, (ap distinct same ∙ whole.0, (whole.1 ∙ ap set_of (sym same), tt)))))
+    record {
+      some = c.if-len-lt1.false;
+      few = c.if-len-gt16.false;
+      held = ap length same;
+      distinct = ap distinct same ∙ whole.0;
+      gathered = whole.1 ∙ ap set_of (sym same);
+    }
 
 pub returns : goal.returns
 returns c =
