@@ -1,8 +1,6 @@
 -- What an allocation is.
 use Rattle.std.specs.Prelude.{Bool, ◌&&◌, List, [], map, take}
 use Rattle.values.specs.Types.{own_request}
-use Rattle.values.specs.declared.kinds.Kind.{Kind}
-use Rattle.values.specs.declared.sizes.Size.{Size}
 use Rattle.values.specs.declared.value_type.ValueType.{ValueType}
 use Rattle.place.specs.Holdings.{Holding}
 use Rattle.stage.specs.Books.{Book, Blame, Profile, Questions}

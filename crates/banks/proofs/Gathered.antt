@@ -1,5 +1,5 @@
 -- The steps of the loop that gathers a list of registers.
-use Rattle.std.proofs.Common.{◌≡◌, ℕ, ◌+◌, ◌<◌, ◌≤◌, Bool, true, false, not, ◌&&◌, leb, List, [], ◌∷◌, ◌++◌, length, get_or, take, drop, sym, refl, ap, ◌∙◌, subst, arith}
+use Rattle.std.proofs.Common.{◌≡◌, ℕ, ◌+◌, ◌<◌, ◌≤◌, true, false, not, ◌&&◌, leb, List, ◌++◌, length, get_or, take, drop, sym, refl, ◌∙◌, subst, arith}
 use Rattle.std.proofs.lemmas.List.{at_drop_more, take-append-le, take_all}
 use Rattle.std.proofs.lemmas.Bool.{le-leb, lt-leb}
 use Rattle.place.specs.Registers.{has, with}

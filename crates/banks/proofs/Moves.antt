@@ -1,5 +1,5 @@
 -- What a bank does at a cursor, by the table that holds its registers.
-use Rattle.std.proofs.Common.{◌≡◌, ℕ, ◌+◌, ◌*◌, ◌/◌, ◌<◌, ◌≤◌, List, length, get_or, take, sym, refl, ap, ◌∙◌, arith}
+use Rattle.std.proofs.Common.{◌≡◌, ℕ, ◌+◌, ◌*◌, ◌/◌, ◌<◌, ◌≤◌, List, length, get_or, take, sym, ap, ◌∙◌, arith}
 use Rattle.std.proofs.lemmas.List.{get_or-take}
 use Rattle.std.proofs.lemmas.Bool.{cond-true, lt-ltb, le-leb}
 use Rattle.place.specs.declared.pieces.Piece.TheVariants.{Register}
@@ -8,7 +8,7 @@ use Rattle.values.specs.Requests.{raised}
 use Rattle.values.specs.Sizes.{bytes, round_up}
 use Rattle.values.specs.declared.requests.Request.{Request}
 use Rattle.values.specs.declared.sizes.Size.{Size}
-use Rattle.values.specs.declared.sizes.Size.TheVariants.{One, Two, Four, Eight}
+use Rattle.values.specs.declared.sizes.Size.TheVariants.{Four, Eight}
 use Rattle.stage.specs.Cursors.{Move, grant}
 use Rattle.banks.specs.Banks.{count_move, bits_move, bits_start}
 

@@ -1,5 +1,5 @@
 -- The banks are lawful.
-use Rattle.std.specs.Prelude.{◌≡◌, ℕ, zero, suc, ◌+◌, ◌*◌, ◌/◌, ◌%◌, ◌<◌, ◌≤◌, Bool, true, false, not, ◌&&◌, ◌⊎◌, List, [], ◌∷◌, length, ◌≢◌, nat_le, nat_lt, slice_index, refl}
+use Rattle.std.specs.Prelude.{◌≡◌, ℕ, zero, suc, ◌+◌, ◌*◌, ◌/◌, ◌%◌, ◌<◌, ◌≤◌, true, false, not, ◌⊎◌, List, [], ◌∷◌, length, ◌≢◌, nat_le, nat_lt, slice_index, refl}
 use Rattle.std.proofs.Common.{inl, inr, ap, sym, subst, ◌∙◌, arith}
 use Rattle.std.proofs.lemmas.Bool.{leb-true, ltb-true, and_parts, both_ways, not-true, cases_Bool, cond-true, cond-false}
 use Rattle.place.proofs.Apart.{registers_apart}
@@ -15,9 +15,9 @@ use Rattle.values.specs.declared.sizes.Size.{Size}
 use Rattle.values.specs.declared.sizes.Size.TheVariants.{One, Two, Four, Eight}
 use Rattle.stage.specs.Lawful.{Granted, Lawful}
 use Rattle.banks.specs.Lists.{fresh_in, distinct, with_all, set_of}
-use Rattle.stage.specs.Cursors.{Move, grant, refuse}
+use Rattle.stage.specs.Cursors.{grant, refuse}
 use Rattle.banks.specs.Banks.{register, register_pair, bank_questions, count_move, count_book, bits_move, bits_start, bits_book}
-use Rattle.stage.proofs.Cursors.{Gives, cursor_lawful}
+use Rattle.stage.proofs.Cursors.{cursor_lawful}
 
 -- the facts of a list's first register, and of the rest
 fresh_parts : (set x : ℕ) (xs : List ℕ) → fresh_in set (x ∷ xs) ≡ true → (x ≤ 27) × (has set x ≡ false) × (fresh_in (with set x) xs ≡ true)

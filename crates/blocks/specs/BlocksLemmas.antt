@@ -1,6 +1,6 @@
 -- Up is lawful.
-use Rattle.std.specs.Prelude.{◌≡◌, ℕ, ◌+◌, ◌≤◌, Bool, true, false, ◌&&◌, leb, ◌⊎◌, is_some, nat_le, refl}
-use Rattle.std.proofs.Common.{inl, inr, ap, sym, subst, ◌∙◌, arith}
+use Rattle.std.specs.Prelude.{◌≡◌, ℕ, ◌+◌, ◌≤◌, true, ◌&&◌, leb, ◌⊎◌, is_some, nat_le, refl}
+use Rattle.std.proofs.Common.{inl, inr, ap, arith}
 use Rattle.std.proofs.lemmas.Bool.{leb-true, le-leb, and_parts, cases_Bool, cond-true, cond-false}
 use Rattle.std.specs.List.{AllByRecursion as All}
 use Rattle.place.proofs.Apart.{blocks_apart}
@@ -15,9 +15,9 @@ use Rattle.values.specs.declared.requests.Request.{Request}
 use Rattle.values.specs.declared.sizes.Size.{Size}
 use Rattle.values.specs.declared.sizes.Size.TheVariants.{One, Two, Four, Eight}
 use Rattle.stage.specs.Lawful.{Granted, Lawful, Aligned}
-use Rattle.stage.specs.Cursors.{Move, grant, refuse}
+use Rattle.stage.specs.Cursors.{grant, refuse}
 use Rattle.blocks.specs.Blocks.{block_place, up_move, up_book, up_questions}
-use Rattle.stage.proofs.Cursors.{Gives, cursor_lawful}
+use Rattle.stage.proofs.Cursors.{cursor_lawful}
 
 -- block bytes from lo on that end by hi
 abbrev Between : ℕ → ℕ → Piece → Type 0

@@ -1,8 +1,8 @@
 -- Pieces and places that share no byte.
-use Rattle.std.proofs.Common.{◌≡◌, ℕ, ◌+◌, ◌≤◌, List, sym, ◌∙◌, arith}
+use Rattle.std.proofs.Common.{◌≡◌, ℕ, ◌+◌, ◌≤◌, sym, ◌∙◌, arith}
 use Rattle.std.proofs.ByRecursion.{All-weaker}
 use Rattle.std.specs.List.{AllByRecursion as All}
-use Rattle.place.specs.Pieces.{Byte, of_register, of_block, Covers, Apart, pieces, PlacesApart}
+use Rattle.place.specs.Pieces.{of_register, of_block, Apart, pieces, PlacesApart}
 use Rattle.values.specs.Sizes.{bytes}
 use Rattle.place.specs.declared.pieces.Piece.{Piece}
 use Rattle.place.specs.declared.pieces.Piece.TheVariants.{Register, Block}

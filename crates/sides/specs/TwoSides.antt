@@ -1,15 +1,13 @@
 -- A layer over two sides is lawful where both are.
-use Rattle.std.specs.Prelude.{◌≡◌, ℕ, ◌+◌, ◌≤◌, max, Bool, true, false, not, ◌&&◌, ◌||◌, ◌⊎◌, List, [], ◌∷◌, is_some, Some, Option, refl}
-use Rattle.std.proofs.Common.{inl, inr, ap, sym, subst, ◌∙◌, arith}
-use Rattle.std.specs.Int.Bits.{bit_or}
-use Rattle.std.proofs.ByRecursion.{All-weaker}
+use Rattle.std.specs.Prelude.{◌≡◌, ℕ, ◌≤◌, Bool, true, false, ◌⊎◌, List, [], ◌∷◌, is_some, Some, Option}
+use Rattle.std.proofs.Common.{inl, inr, ap, sym, subst, arith}
 use Rattle.std.proofs.lemmas.Bool.{and_parts, and_cases, not-true, or_parts}
 use Rattle.std.specs.List.{AllByRecursion as All}
 use Rattle.place.proofs.Apart.{registers_apart, register_block_apart, block_register_apart, apart_by_pieces}
 use Rattle.values.proofs.Rounding.{at_least_one}
 use Rattle.place.proofs.Sets.{union_left, union_right, union_cases, apart_differ}
 use Rattle.place.specs.Pieces.{Apart, PlacesApart, pieces}
-use Rattle.place.specs.Registers.{has, apart}
+use Rattle.place.specs.Registers.{apart}
 use Rattle.place.specs.declared.pieces.Piece.{Piece}
 use Rattle.place.specs.declared.pieces.Piece.TheVariants.{Register, Block}
 use Rattle.place.specs.declared.pieces.Place.{Place}

@@ -1,5 +1,5 @@
 -- A bottom whose cursor passes what it gives is lawful.
-use Rattle.std.proofs.Common.{◌≡◌, ℕ, ◌≤◌, true, false, ◌⊎◌, List, is_some, Some, None, Option, sym, refl, ap, ◌∙◌, subst, inl, inr, arith}
+use Rattle.std.proofs.Common.{◌≡◌, ℕ, ◌≤◌, true, false, ◌⊎◌, is_some, Some, None, Option, sym, ap, ◌∙◌, subst, inl, inr, arith}
 use Rattle.std.specs.List.{AllByRecursion as All}
 use Rattle.place.proofs.Apart.{apart_by_pieces}
 use Rattle.place.specs.Pieces.{Apart, pieces}
@@ -8,7 +8,7 @@ use Rattle.place.specs.declared.pieces.Piece.{Piece}
 use Rattle.place.specs.declared.pieces.Place.{Place}
 use Rattle.values.specs.declared.requests.Request.{Request}
 use Rattle.stage.proofs.Runs.{along, Spares, SparesNow}
-use Rattle.stage.specs.Books.{Entry, Questions, book_of, said, used}
+use Rattle.stage.specs.Books.{Entry, Questions, book_of}
 use Rattle.stage.specs.Lawful.{Granted, LawfulHere, Lawful}
 use Rattle.stage.specs.Cursors.{Move, grant, refuse, bottom_book}
 

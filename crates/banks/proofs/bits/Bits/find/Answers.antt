@@ -1,4 +1,4 @@
-use Rattle.std.proofs.Common.{◌≡◌, ◌+◌, ◌*◌, ◌≤◌, take, rules}
+use Rattle.std.proofs.Common.{◌+◌, ◌*◌, ◌≤◌, take, rules}
 use Rattle.values.specs.declared.sizes.Size.TheVariants.{Four, Eight}
 use Rattle.banks.proofs.Moves.{bits_move_lem, four_next, eight_next}
 use Rattle.banks.proofs.bits.Bits.find.Goals as goal
