@@ -2,7 +2,7 @@
 use Rattle.std.specs.Prelude.{◌≡◌, ℕ, ◌+◌, ◌≤◌, true, ◌&&◌, leb, ◌⊎◌, is_some, nat_le, refl}
 use Rattle.std.proofs.Common.{inl, inr, ap, arith}
 use Rattle.std.proofs.lemmas.Bool.{leb-true, le-leb, and_parts, cases_Bool, cond-true, cond-false}
-use Rattle.std.specs.List.{AllByRecursion as All}
+use Rattle.std.specs.List.{AllByRecursion}
 use Rattle.place.proofs.Apart.{blocks_apart}
 use Rattle.values.proofs.Rounding.{rounded, at_most_eight}
 use Rattle.place.proofs.Sets.{none_in_empty}
@@ -29,7 +29,7 @@ between_apart lo mid from hi l (Register x) y g h = absurd g
 between_apart lo mid from hi l (Block o v) (Register y) g h = absurd h
 between_apart lo mid from hi l (Block o v) (Block u w) g h = blocks_apart o v u w (omega (arith, g.1, h.0))
 
-given_between : (lo o : ℕ) (w : Size) → lo ≤ o → All (Between lo (o + bytes w)) (pieces (block_place o w))
+given_between : (lo o : ℕ) (w : Size) → lo ≤ o → AllByRecursion (Between lo (o + bytes w)) (pieces (block_place o w))
 given_between lo o One l = ((l, omega arith), tt)
 given_between lo o Two l = ((l, omega arith), tt)
 given_between lo o Four l = ((l, omega arith), tt)

@@ -1,6 +1,6 @@
 -- A call that is placed on both sides alike, coded and run delivers.
 use Rattle.std.proofs.Common.{◌≡◌, ℕ, ◌+◌, ◌≤◌, List, ◌++◌, length, drop, None, Option, Result, sym, refl, ap, ◌∙◌, subst, arith}
-use Rattle.std.specs.List.{AllByRecursion as All}
+use Rattle.std.specs.List.{AllByRecursion}
 use Rattle.stage.specs.Faults.{Fault}
 use Rattle.place.specs.Holdings.{Holding}
 use Rattle.allocation.specs.States.{State, opened}
@@ -72,7 +72,7 @@ module _ (s : Setting) (none : None ≡ coding_fault (whole_sides s) s.kept s.bo
       (held_few s.bench_arguments.profile s.arguments) (results_few a b s.kept bench_passes)
       (held_few s.core_arguments.profile s.arguments) (results_few c d s.kept core_passes) body_passes
 
-  module _ (l : LawfulPiles s) (alike : SidesAlike s) (held : Placed s (whole_sides s)) (sane : Sane s.world.contents) (sized : All Sized s.body) (new : World) (r : Ran) (ran : RunBy (whole_sides s) s.kept s.body s.budget s.world new r) (given : Provided s r) where
+  module _ (l : LawfulPiles s) (alike : SidesAlike s) (held : Placed s (whole_sides s)) (sane : Sane s.world.contents) (sized : AllByRecursion Sized s.body) (new : World) (r : Ran) (ran : RunBy (whole_sides s) s.kept s.body s.budget s.world new r) (given : Provided s r) where
     abbrev x : Contents
     x = s.world.contents
 

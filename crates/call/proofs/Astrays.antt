@@ -1,7 +1,7 @@
 -- Nothing goes astray in a call of lawful piles that came out by the rules.
 use Rattle.std.proofs.Common.{◌≡◌, ℕ, ◌+◌, ◌≤◌, length, None, Ok, Result, sym, ap, ◌∙◌, subst}
 use Rattle.std.proofs.ByRecursion.{All-weaker}
-use Rattle.std.specs.List.{AllByRecursion as All}
+use Rattle.std.specs.List.{AllByRecursion}
 use Rattle.histories.specs.Histories.{grants_in}
 use Rattle.histories.specs.Laws.{HoldsWhatWasGranted, HoldsPlacesApart, WideEnough, AlignedAsRequested, PlacesAlways}
 use Rattle.histories.proofs.Twins.{equal_answers}
@@ -16,12 +16,12 @@ use Rattle.call.proofs.Arrives.{codes_are_short, arrives}
 use Rattle.call.proofs.Firsts.{none_first, none_next}
 use Rattle.call.proofs.Steps.{LawfulPiles, LawfulMoment, each_moment_is_lawful, whole_sides, asked_whole, each_is_held}
 
-module _ (s : Setting) (e : End) (piles : LawfulPiles s) (sane : Sane s.world.contents) (sized : All Sized s.body)
+module _ (s : Setting) (e : End) (piles : LawfulPiles s) (sane : Sane s.world.contents) (sized : AllByRecursion Sized s.body)
     (same : e.sides ≡ sides_of (placement_in s))
     (fault : fault_in e.answer ≡ first_of (placement_in s).core_results.fault (coding_fault e.sides s.kept s.body (length s.world.caller) (length s.world.callee) (length s.world.contents.mem)))
     (out : CameOut e.sides s.kept s.body s.budget s.world e.world e.answer) where
   -- what each moment's laws say, of all of them
-  of_each : (F : Moment → Type 0) → ((m : Moment) → LawfulMoment m → F m) → All F (moments s e.sides)
+  of_each : (F : Moment → Type 0) → ((m : Moment) → LawfulMoment m → F m) → AllByRecursion F (moments s e.sides)
   of_each F f = All-weaker LawfulMoment F f (moments s e.sides) (each_moment_is_lawful s e.sides piles same)
 
   module _ (r : Ran) (answered : e.answer ≡ Ok r) where
@@ -57,8 +57,8 @@ module _ (s : Setting) (e : End) (piles : LawfulPiles s) (sane : Sane s.world.co
     sides_are_placed_by_the_rules = same;
     held_places_are_those_granted_since = of_each (λ m. HoldsWhatWasGranted m.profile m.history m.state) (λ m l. l.held_places_are_those_granted_since);
     held_places_share_no_byte = of_each (λ m. HoldsPlacesApart m.state) (λ m l. l.held_places_share_no_byte);
-    held_places_are_as_wide_as_requested_or_wider = of_each (λ m. All WideEnough (grants_in m.profile m.history)) (λ m l. l.held_places_are_as_wide_as_requested_or_wider);
-    held_places_are_aligned_in_the_block = of_each (λ m. All AlignedAsRequested (grants_in m.profile m.history)) (λ m l. l.held_places_are_aligned_in_the_block);
+    held_places_are_as_wide_as_requested_or_wider = of_each (λ m. AllByRecursion WideEnough (grants_in m.profile m.history)) (λ m l. l.held_places_are_as_wide_as_requested_or_wider);
+    held_places_are_aligned_in_the_block = of_each (λ m. AllByRecursion AlignedAsRequested (grants_in m.profile m.history)) (λ m l. l.held_places_are_aligned_in_the_block);
     a_type_always_placed_is_refused_only_past_4088_or_at_sixteen = of_each (λ m. PlacesAlways m.profile m.history) (λ m l. l.a_type_always_placed_is_refused_only_past_4088_or_at_sixteen);
     equal_requests_for_arguments_get_equal_answers = equal_answers s.bench_arguments.profile s.core_arguments.profile;
     equal_requests_for_results_get_equal_answers = equal_answers s.bench_results.profile s.core_results.profile;

@@ -1,6 +1,6 @@
 -- The allocations of a call: what each was asked, and what it became.
 use Rattle.std.proofs.Common.{◌≡◌, List, [], ◌∷◌, ◌++◌, Some, None, Option, sym, refl, ap, ◌∙◌, subst}
-use Rattle.std.specs.List.{AllByRecursion as All}
+use Rattle.std.specs.List.{AllByRecursion}
 use Rattle.stage.specs.Books.{Profile}
 use Rattle.stage.specs.Faults.{Fault}
 use Rattle.stage.specs.Lawful.{Lawful}
@@ -55,7 +55,7 @@ pub record LawfulPiles (s : Setting) : Type 0 where
   pub core_arguments : Lawful s.core_arguments.profile.questions s.core_arguments.profile.first
   pub core_results : Lawful s.core_results.profile.questions s.core_results.profile.first
 
-pub each_moment_is_lawful : (s : Setting) (e : Sides) → LawfulPiles s → e ≡ sides_of (placement_in s) → All LawfulMoment (moments s e)
+pub each_moment_is_lawful : (s : Setting) (e : Sides) → LawfulPiles s → e ≡ sides_of (placement_in s) → AllByRecursion LawfulMoment (moments s e)
 each_moment_is_lawful s e l same =
     let p = placement_in s in (
       lawful_past s.bench_arguments l.bench_arguments,

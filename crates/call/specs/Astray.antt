@@ -1,6 +1,6 @@
 -- The promise of a call: no argument and no result goes astray, whatever came to either side before.
 use Rattle.std.specs.Prelude.{◌≡◌, ℕ, ◌+◌, ◌≤◌, List, [], ◌∷◌, ◌++◌, length, Ok, Err, Result}
-use Rattle.std.specs.List.{AllByRecursion as All}
+use Rattle.std.specs.List.{AllByRecursion}
 use Rattle.values.specs.Sizes.{bytes}
 use Rattle.place.specs.Holdings.{Holding}
 use Rattle.stage.specs.Books.{Profile}
@@ -129,11 +129,11 @@ pub record Delivered (s : Setting) (e : End) (r : Ran) (p q : Contents) : Type 0
 pub record NothingGoesAstray (s : Setting) (e : End) : Type 0 where
   -- bench, then core, was asked for the signature up to the first refusal
   pub sides_are_placed_by_the_rules : e.sides ≡ sides_of (placement_in s)
-  pub held_places_are_those_granted_since : All (λ m. HoldsWhatWasGranted m.profile m.history m.state) (moments s e.sides)
-  pub held_places_share_no_byte : All (λ m. HoldsPlacesApart m.state) (moments s e.sides)
-  pub held_places_are_as_wide_as_requested_or_wider : All (λ m. All WideEnough (grants_in m.profile m.history)) (moments s e.sides)
-  pub held_places_are_aligned_in_the_block : All (λ m. All AlignedAsRequested (grants_in m.profile m.history)) (moments s e.sides)
-  pub a_type_always_placed_is_refused_only_past_4088_or_at_sixteen : All (λ m. PlacesAlways m.profile m.history) (moments s e.sides)
+  pub held_places_are_those_granted_since : AllByRecursion (λ m. HoldsWhatWasGranted m.profile m.history m.state) (moments s e.sides)
+  pub held_places_share_no_byte : AllByRecursion (λ m. HoldsPlacesApart m.state) (moments s e.sides)
+  pub held_places_are_as_wide_as_requested_or_wider : AllByRecursion (λ m. AllByRecursion WideEnough (grants_in m.profile m.history)) (moments s e.sides)
+  pub held_places_are_aligned_in_the_block : AllByRecursion (λ m. AllByRecursion AlignedAsRequested (grants_in m.profile m.history)) (moments s e.sides)
+  pub a_type_always_placed_is_refused_only_past_4088_or_at_sixteen : AllByRecursion (λ m. PlacesAlways m.profile m.history) (moments s e.sides)
   pub equal_requests_for_arguments_get_equal_answers : EqualRequestsGetEqualAnswers s.bench_arguments.profile s.core_arguments.profile
   pub equal_requests_for_results_get_equal_answers : EqualRequestsGetEqualAnswers s.bench_results.profile s.core_results.profile
   -- the first fault of placing, of the caller's code, of the callee's code, or of the memory

@@ -1,6 +1,6 @@
 // What the types of a list's elements say of all of them at once. A proof learns it where one of them is read.
 ghost use Rattle.std.specs.Prelude.{ℕ, ◌<◌, slice_index};
-ghost use Rattle.std.specs.List.{AllByRecursion as All};
+ghost use Rattle.std.specs.List.{AllByRecursion};
 ghost use Rattle.delivery.specs.Delivering.{Sized};
 
 use machine::Instruction;
@@ -22,7 +22,7 @@ fn read_number(instruction: Instruction) -> u32
 }
 
 pub(crate) fn read_numbers(body: &[Instruction])
-    ensures each_has_32_bits { All Sized body.now }
+    ensures each_has_32_bits { AllByRecursion Sized body.now }
 {
     for instruction in body {
         let _ = read_number(*instruction);

@@ -4,7 +4,7 @@ use Rattle.std.proofs.ByRecursion.{All-append, All-map}
 use Rattle.std.proofs.lemmas.List.{append-nil, append_assoc, map-append, length_push}
 use Rattle.std.proofs.lemmas.Bool.{leb-false, lt-leb, cases_lt, and_parts, both_ways}
 use Rattle.std.specs.Option.{option_map, option_to_list}
-use Rattle.std.specs.List.{AllByRecursion as All}
+use Rattle.std.specs.List.{AllByRecursion}
 use Rattle.values.specs.Sizes.{bytes}
 use Rattle.values.specs.Types.{own_request}
 use Rattle.values.specs.declared.requests.Request.{Request}
@@ -42,15 +42,15 @@ reaching_by s o = reaching_with (length s.held) s.profile.questions.sound o
 -- what holds of each grant, where a fact of the states is kept
 module _ (Inv : State → Type 0) (keeps : (s : State) (t : Result Request ℕ) → Inv s → Inv (placed_by s t))
     (P : Grant → Type 0) (gives : (s : State) (r : Request) (p : Place) → Inv s → said s.book r ≡ Some p → P (grant r p)) where
-  each_of : (s : State) (r : Request) → Inv s → (o : Option Place) → said s.book r ≡ o → All P (option_to_list (option_map (grant r) o))
+  each_of : (s : State) (r : Request) → Inv s → (o : Option Place) → said s.book r ≡ o → AllByRecursion P (option_to_list (option_map (grant r) o))
   each_of s r i None e = tt
   each_of s r i (Some p) e = (gives s r p i e, tt)
 
-  each_by : (s : State) → Inv s → (t : Result Request ℕ) → All P (grant_by s t)
+  each_by : (s : State) → Inv s → (t : Result Request ℕ) → AllByRecursion P (grant_by s t)
   each_by s i (Ok r) = each_of s r i (said s.book r) refl
   each_by s i (Err n) = tt
 
-  pub each_grant : (qs : List Asked) (s : State) → Inv s → All P (grants s qs)
+  pub each_grant : (qs : List Asked) (s : State) → Inv s → AllByRecursion P (grants s qs)
   each_grant [] s i = tt
   each_grant (q ∷ qs) s i =
       let t = reaching s q.kind q.width q.alignment in
@@ -61,7 +61,7 @@ spares_by : (p : Place) (s : State) (t : Result Request ℕ) → Spares p s.book
 spares_by p s (Ok r) h = spares_after p s.book r h
 spares_by p s (Err n) h = h
 
-spared : (p : Place) (qs : List Asked) (s : State) → Spares p s.book → All (λ g. PlacesApart p g.place) (grants s qs)
+spared : (p : Place) (qs : List Asked) (s : State) → Spares p s.book → AllByRecursion (λ g. PlacesApart p g.place) (grants s qs)
 spared p = each_grant (λ s. Spares p s.book) (spares_by p) (λ g. PlacesApart p g.place) (λ s r z h. h [] r z)
 
 abbrev pub places : List Grant → List Place
@@ -84,10 +84,10 @@ module _ (p : Profile) where
   good_all [] s h = h
   good_all (q ∷ qs) s h = good_all qs (placed_next s q) (good_by s (reaching s q.kind q.width q.alignment) h)
 
-  pub wide : (qs : List Asked) (s : State) → Good s → All WideEnough (grants s qs)
+  pub wide : (qs : List Asked) (s : State) → Good s → AllByRecursion WideEnough (grants s qs)
   wide = each_grant Good good_by WideEnough (λ s r z h e. ((h.1 []).places_are_granted_lawfully r z e).is_as_wide_as_requested_or_wider)
 
-  pub aligned : (qs : List Asked) (s : State) → Good s → All AlignedAsRequested (grants s qs)
+  pub aligned : (qs : List Asked) (s : State) → Good s → AllByRecursion AlignedAsRequested (grants s qs)
   aligned = each_grant Good good_by AlignedAsRequested (λ s r z h e. ((h.1 []).places_are_granted_lawfully r z e).low_block_piece_is_aligned)
 
   abbrev ApartAfter : State → List Asked → Type 0

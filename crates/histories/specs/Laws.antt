@@ -1,6 +1,6 @@
 -- What holds after every history, for any lawful pile.
 use Rattle.std.specs.Prelude.{◌≡◌, ◌<◌, ◌≤◌, true, false, ◌⊎◌, List, [], ◌∷◌, ◌++◌, map, length, is_ok}
-use Rattle.std.specs.List.{AllByRecursion as All}
+use Rattle.std.specs.List.{AllByRecursion}
 use Rattle.values.specs.Sizes.{bytes}
 use Rattle.values.specs.declared.value_type.ValueType.{ValueType}
 use Rattle.place.specs.Pieces.{low_piece, place_width, PlacesApart}
@@ -15,7 +15,7 @@ use Rattle.histories.specs.declared.asked.Asked.{Asked}
 -- no two of the places share a byte
 abbrev pub EachApart : List Place → Type 0
 EachApart [] = Unit {0}
-EachApart (p ∷ ps) = All (PlacesApart p) ps × EachApart ps
+EachApart (p ∷ ps) = AllByRecursion (PlacesApart p) ps × EachApart ps
 
 -- a place as wide as was requested or wider
 abbrev pub WideEnough : Grant → Type 0
@@ -46,8 +46,8 @@ PlacesAlways p h = (before later : List Asked) → before ++ later ≡ h.since �
 pub record LawfulAllocation (p : Profile) (h : History) (s : State) : Type 0 where
   pub held_places_are_those_granted_since : HoldsWhatWasGranted p h s
   pub held_places_share_no_byte : HoldsPlacesApart s
-  pub held_places_are_as_wide_as_requested_or_wider : All WideEnough (grants_in p h)
-  pub held_places_are_aligned_in_the_block : All AlignedAsRequested (grants_in p h)
+  pub held_places_are_as_wide_as_requested_or_wider : AllByRecursion WideEnough (grants_in p h)
+  pub held_places_are_aligned_in_the_block : AllByRecursion AlignedAsRequested (grants_in p h)
   pub a_type_always_placed_is_refused_only_past_4088_or_at_sixteen : PlacesAlways p h
 
 -- piles with equal first books and equal answers to questions

@@ -1,7 +1,7 @@
 -- Pieces and places that share no byte.
 use Rattle.std.proofs.Common.{◌≡◌, ℕ, ◌+◌, ◌≤◌, sym, ◌∙◌, arith}
 use Rattle.std.proofs.ByRecursion.{All-weaker}
-use Rattle.std.specs.List.{AllByRecursion as All}
+use Rattle.std.specs.List.{AllByRecursion}
 use Rattle.place.specs.Pieces.{of_register, of_block, Apart, pieces, PlacesApart}
 use Rattle.values.specs.Sizes.{bytes}
 use Rattle.place.specs.declared.pieces.Piece.{Piece}
@@ -26,6 +26,6 @@ block_register_apart u w x (of_register q k) a b = a
 block_register_apart u w x (of_block n) a b = b
 
 -- places of which every two pieces are apart
-pub apart_by_pieces : (P Q : Piece → Type 0) → ((x y : Piece) → P x → Q y → Apart x y) → (p q : Place) → All P (pieces p) → All Q (pieces q) → PlacesApart p q
+pub apart_by_pieces : (P Q : Piece → Type 0) → ((x y : Piece) → P x → Q y → Apart x y) → (p q : Place) → AllByRecursion P (pieces p) → AllByRecursion Q (pieces q) → PlacesApart p q
 apart_by_pieces P Q f p q a b =
-    All-weaker P (λ x. All (Apart x) (pieces q)) (λ x h. All-weaker Q (Apart x) (λ y. f x y h) (pieces q) b) (pieces p) a
+    All-weaker P (λ x. AllByRecursion (Apart x) (pieces q)) (λ x h. All-weaker Q (Apart x) (λ y. f x y h) (pieces q) b) (pieces p) a

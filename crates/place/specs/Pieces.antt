@@ -1,6 +1,6 @@
 -- What pieces and places cover, byte by byte.
 use Rattle.std.specs.Prelude.{◌≡◌, ℕ, ◌+◌, ◌<◌, ◌≤◌, Bool, true, false, List, [], ◌∷◌, ◌++◌, decimal}
-use Rattle.std.specs.List.{AllByRecursion as All}
+use Rattle.std.specs.List.{AllByRecursion}
 use Rattle.values.specs.Sizes.{bytes}
 use Rattle.place.specs.declared.pieces.Piece.{Piece}
 use Rattle.place.specs.declared.pieces.Piece.TheVariants.{Register, Block}
@@ -61,7 +61,7 @@ PiecesApart (Double low high) = Apart low high
 
 -- two places share no byte
 abbrev pub PlacesApart : Place → Place → Type 0
-PlacesApart p q = All (λ x. All (Apart x) (pieces q)) (pieces p)
+PlacesApart p q = AllByRecursion (λ x. AllByRecursion (Apart x) (pieces q)) (pieces p)
 
 -- a piece as it is printed: r and its number, or + offset / width
 abbrev pub piece_text : Piece → List ℕ

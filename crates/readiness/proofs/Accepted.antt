@@ -2,7 +2,7 @@
 use Rattle.std.proofs.Common.{◌≡◌, ℕ, ◌-◌, ◌/◌, ◌^◌, ◌<◌, ◌≤◌, Bool, true, false, cond, not, ◌||◌, ltb, List, [], ◌∷◌, length, Some, None, Option, sym, refl, ◌∙◌, inl, inr, arith, pow_mono}
 use Rattle.std.proofs.lemmas.Nat.{div_below, pow_pos}
 use Rattle.std.proofs.lemmas.Bool.{cases_lt, eqb-true, ltb-false, not-false, or_parts}
-use Rattle.std.specs.List.{AllByRecursion as All}
+use Rattle.std.specs.List.{AllByRecursion}
 use Rattle.place.proofs.Sets.{apart_differ}
 use Rattle.place.specs.Holdings.{Holding}
 use Rattle.place.specs.Pieces.{in_block, low_piece, pieces, WellFormed}
@@ -77,11 +77,11 @@ in_register : (x : Piece) → in_block x ≡ false → InRegister x
 in_register (Register d) e = tt
 in_register (Block o w) e = let z : ◌≡◌ {A = ℕ} 0 1 = cc in absurd (omega arith)
 
-in_registers : (p : Place) → WellFormed p → in_block (low_piece p) ≡ false → All InRegister (pieces p)
+in_registers : (p : Place) → WellFormed p → in_block (low_piece p) ≡ false → AllByRecursion InRegister (pieces p)
 in_registers (Single low) w e = (in_register low e, tt)
 in_registers (Double low high) w e = (in_register low e, (in_register high (sym w.4 ∙ e), tt))
 
-pub all_in_registers : (hs : List Holding) → All Fits hs → in_block_any hs ≡ false → AllPieces InRegister hs
+pub all_in_registers : (hs : List Holding) → AllByRecursion Fits hs → in_block_any hs ≡ false → AllPieces InRegister hs
 all_in_registers [] f e = tt
 all_in_registers (h ∷ hs) f e =
     let parts = or_parts (in_block (low_piece h.place)) (in_block_any hs) e in

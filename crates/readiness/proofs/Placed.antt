@@ -2,7 +2,7 @@
 use Rattle.std.proofs.Common.{◌≡◌, ℕ, ◌≤◌, List, [], ◌∷◌, map, length, Some, None, Ok, Err, Option, Result, sym, refl, subst, arith}
 use Rattle.std.proofs.ByRecursion.{All-append, All-map, All-weaker}
 use Rattle.std.specs.Option.{option_map, option_to_list}
-use Rattle.std.specs.List.{AllByRecursion as All}
+use Rattle.std.specs.List.{AllByRecursion}
 use Rattle.values.specs.declared.requests.Request.{Request}
 use Rattle.place.specs.Holdings.{Holding}
 use Rattle.place.specs.Pieces.{pieces, PlacesApart}
@@ -45,15 +45,15 @@ module _ (p : Profile) where
   granted_more : (m n : ℕ) → m ≤ n → (g : Grant) → GrantedBy m g → GrantedBy n g
   granted_more m n l g = lifted p.questions p.questions (λ x h. h) g.request g.place m n l
 
-  granted_of : (s : State) (r : Request) → Good p s → (o : Option Place) → said s.book r ≡ o → All (GrantedBy (used (after s.book r))) (option_to_list (option_map (grant r) o))
+  granted_of : (s : State) (r : Request) → Good p s → (o : Option Place) → said s.book r ≡ o → AllByRecursion (GrantedBy (used (after s.book r))) (option_to_list (option_map (grant r) o))
   granted_of s r h None e = tt
   granted_of s r h (Some z) e = ((h.1 []).places_are_granted_lawfully r z e, tt)
 
-  granted_by : (s : State) (t : Result Request ℕ) → Good p s → All (GrantedBy (used (placed_by s t).book)) (grant_by s t)
+  granted_by : (s : State) (t : Result Request ℕ) → Good p s → AllByRecursion (GrantedBy (used (placed_by s t).book)) (grant_by s t)
   granted_by s (Ok r) h = granted_of s r h (said s.book r) refl
   granted_by s (Err n) h = tt
 
-  granted_all : (qs : List Asked) (s : State) → Good p s → All (GrantedBy (used (placed_all s qs).book)) (grants s qs)
+  granted_all : (qs : List Asked) (s : State) → Good p s → AllByRecursion (GrantedBy (used (placed_all s qs).book)) (grants s qs)
   granted_all [] s h = tt
   granted_all (q ∷ qs) s h =
       let t : Result Request ℕ = reaching s q.kind q.width q.alignment in
@@ -63,7 +63,7 @@ module _ (p : Profile) where
       All-append (GrantedBy n) (grant_by s t) (grants (placed_next s q) qs) first (granted_all qs (placed_next s q) good)
 
 -- places that are apart, as they are held
-all_places : (P : Place → Type 0) (hs : List Holding) → All P (map (λ x. x.place) hs) → All (λ h. P h.place) hs
+all_places : (P : Place → Type 0) (hs : List Holding) → AllByRecursion P (map (λ x. x.place) hs) → AllByRecursion (λ h. P h.place) hs
 all_places P [] a = tt
 all_places P (h ∷ hs) a = (a.0, all_places P hs a.1)
 
@@ -76,13 +76,13 @@ module _ (p : Profile) (qs : List Asked) (l : Lawful p.questions p.first) where
   abbrev filled : State
   filled = placed_all (opened p) qs
 
-  each_held : (P : Holding → Type 0) → ((g : Grant) → GrantedBy p (used filled.book) g → P (as_held g)) → All P filled.held
+  each_held : (P : Holding → Type 0) → ((g : Grant) → GrantedBy p (used filled.book) g → P (as_held g)) → AllByRecursion P filled.held
   each_held P f =
       let gs : List Grant = grants (opened p) qs in
       let given = All-weaker (GrantedBy p (used filled.book)) (λ g. P (as_held g)) f gs (granted_all p qs (opened p) (newly_good p l)) in
-      subst (All P) (sym (held_grants qs (opened p))) (All-map P as_held gs given)
+      subst (AllByRecursion P) (sym (held_grants qs (opened p))) (All-map P as_held gs given)
 
-  pub held_fits : All Fits filled.held
+  pub held_fits : AllByRecursion Fits filled.held
   held_fits = each_held Fits (λ g h. record {
     is_well_formed = h.is_well_formed;
     is_wide_enough = h.is_as_wide_as_requested_or_wider;
@@ -90,10 +90,10 @@ module _ (p : Profile) (qs : List Asked) (l : Lawful p.questions p.first) where
   })
 
   pub held_in_set : AllPieces (InSet p.questions.registers) filled.held
-  held_in_set = each_held (λ h. All (InSet p.questions.registers) (pieces h.place)) (λ g h. h.registers_are_in_the_set)
+  held_in_set = each_held (λ h. AllByRecursion (InSet p.questions.registers) (pieces h.place)) (λ g h. h.registers_are_in_the_set)
 
   pub held_below : AllPieces (Below (used filled.book)) filled.held
-  held_below = each_held (λ h. All (Below (used filled.book)) (pieces h.place)) (λ g h. h.reach_lies_above_its_block_bytes)
+  held_below = each_held (λ h. AllByRecursion (Below (used filled.book)) (pieces h.place)) (λ g h. h.reach_lies_above_its_block_bytes)
 
   pub held_apart : AllApart filled.held
   held_apart = all_apart filled.held (lawful_after p (record { rounds = []; since = qs }) l).held_places_share_no_byte

@@ -1,6 +1,6 @@
 -- When a call is ready to run, and how long its code is.
 use Rattle.std.specs.Prelude.{◌≡◌, ℕ, ◌+◌, ◌≤◌, List, length, None}
-use Rattle.std.specs.List.{AllByRecursion as All}
+use Rattle.std.specs.List.{AllByRecursion}
 use Rattle.machine.specs.Machine.{Contents, reg}
 use Rattle.machine.specs.declared.Instruction.{Instruction}
 use Rattle.place.specs.Holdings.{Holding}
@@ -21,7 +21,7 @@ PlacedAndCodedIsReady =
     Lawful p.questions p.first → Lawful q.questions q.first →
     places_fault (placed_all (opened p) us) (placed_all (opened q) vs) kept ≡ None →
     body_fault (home_bytes (length (placed_all (opened p) us).held + length (placed_all (opened q) vs).held)) body 0 ≡ None →
-    All Sized body → Sane x →
+    AllByRecursion Sized body → Sane x →
     block_bytes (placed_all (opened p) us) + frame_bytes (placed_all (opened p) us).held (placed_all (opened q) vs).held (saved kept body) ≤ reg x 31 →
     reg x 31 + home_bytes (length (placed_all (opened p) us).held + length (placed_all (opened q) vs).held) ≤ length x.mem →
     Ready (placed_all (opened p) us).held (placed_all (opened q) vs).held kept body (block_bytes (placed_all (opened p) us)) x

@@ -2,7 +2,7 @@
 use Rattle.std.specs.Prelude.{◌≡◌, ℕ, ◌≤◌, Bool, true, false, ◌⊎◌, List, [], ◌∷◌, is_some, Some, Option}
 use Rattle.std.proofs.Common.{inl, inr, ap, sym, subst, arith}
 use Rattle.std.proofs.lemmas.Bool.{and_parts, and_cases, not-true, or_parts}
-use Rattle.std.specs.List.{AllByRecursion as All}
+use Rattle.std.specs.List.{AllByRecursion}
 use Rattle.place.proofs.Apart.{registers_apart, register_block_apart, block_register_apart, apart_by_pieces}
 use Rattle.values.proofs.Rounding.{at_least_one}
 use Rattle.place.proofs.Sets.{union_left, union_right, union_cases, apart_differ}
@@ -17,7 +17,7 @@ use Rattle.stage.specs.Books.{Book, Entry, Questions, book_of, said, used, after
 use Rattle.stage.specs.Lawful.{InSet, Below, Granted, LawfulHere, Lawful}
 use Rattle.sides.specs.Sides.{Sides, sides, larger, joined, sound_together}
 
-all_both : (P Q : Piece → Type 0) (xs : List Piece) → All P xs → All Q xs → All (λ x. P x × Q x) xs
+all_both : (P Q : Piece → Type 0) (xs : List Piece) → AllByRecursion P xs → AllByRecursion Q xs → AllByRecursion (λ x. P x × Q x) xs
 all_both P Q [] a b = tt
 all_both P Q (x ∷ xs) a b = ((a.0, b.0), all_both P Q xs a.1 b.1)
 
@@ -59,11 +59,11 @@ places_apart p q d r s y z n k g h =
 apart_back : (p q : Place) → PlacesApart p q → PlacesApart q p
 apart_back p q h = swapped (pieces p) (pieces q) h
   where
-    column : (xs : List Piece) (y : Piece) (ys : List Piece) → All (λ x. All (Apart x) (y ∷ ys)) xs → All (Apart y) xs × All (λ x. All (Apart x) ys) xs
+    column : (xs : List Piece) (y : Piece) (ys : List Piece) → AllByRecursion (λ x. AllByRecursion (Apart x) (y ∷ ys)) xs → AllByRecursion (Apart y) xs × AllByRecursion (λ x. AllByRecursion (Apart x) ys) xs
     column [] y ys h = (tt, tt)
     column (x ∷ xs) y ys h = let rest = column xs y ys h.1 in (((λ b c d. h.0.0 b d c), rest.0), (h.0.1, rest.1))
 
-    swapped : (xs ys : List Piece) → All (λ x. All (Apart x) ys) xs → All (λ y. All (Apart y) xs) ys
+    swapped : (xs ys : List Piece) → AllByRecursion (λ x. AllByRecursion (Apart x) ys) xs → AllByRecursion (λ y. AllByRecursion (Apart y) xs) ys
     swapped xs [] h = tt
     swapped xs (y ∷ ys) h = let c = column xs y ys h in (c.0, swapped xs ys c.1)
 

@@ -1,6 +1,6 @@
 -- A bottom whose cursor passes what it gives is lawful.
 use Rattle.std.proofs.Common.{◌≡◌, ℕ, ◌≤◌, true, false, ◌⊎◌, is_some, Some, None, Option, sym, ap, ◌∙◌, subst, inl, inr, arith}
-use Rattle.std.specs.List.{AllByRecursion as All}
+use Rattle.std.specs.List.{AllByRecursion}
 use Rattle.place.proofs.Apart.{apart_by_pieces}
 use Rattle.place.specs.Pieces.{Apart, pieces}
 use Rattle.place.specs.Registers.{has}
@@ -23,7 +23,7 @@ pub record Gives (In : ℕ → ℕ → Piece → Type 0) (index size : ℕ → �
   pub place : Place
   pub cursor : ℕ
   pub moved : move n r ≡ grant place cursor
-  pub between : All (In (index n) (index cursor)) (pieces place)
+  pub between : AllByRecursion (In (index n) (index cursor)) (pieces place)
   pub lawful : Granted q r place (size cursor)
   pub onward : index n ≤ index cursor
   pub larger : size n ≤ size cursor
@@ -60,7 +60,7 @@ module _ (In : ℕ → ℕ → Piece → Type 0)
   grows n r i = at_next (λ k. size n ≤ size k) n r i (omega arith) (λ g. g.larger)
 
   abbrev Gave : ℕ → Request → Place → ℕ → Type 0
-  Gave n r z k = All (In (index n) (index k)) (pieces z) × Granted q r z (size k)
+  Gave n r z k = AllByRecursion (In (index n) (index k)) (pieces z) × Granted q r z (size k)
 
   gave : (n : ℕ) (r : Request) (z : Place) → Inv n → (move n r).answer ≡ Some z → Gave n r z (next n r)
   gave n r z i e =
@@ -72,7 +72,7 @@ module _ (In : ℕ → ℕ → Piece → Type 0)
             subst (Gave n r z) (sym (ap cursor_of g.moved)) (subst (λ y. Gave n r y g.cursor) same (g.between, g.lawful))
       ]
 
-  spares : (z : Place) (lo mid : ℕ) → All (In lo mid) (pieces z) → (n : ℕ) → Inv n × (mid ≤ index n) → Spares z (book_of shows next n)
+  spares : (z : Place) (lo mid : ℕ) → AllByRecursion (In lo mid) (pieces z) → (n : ℕ) → Inv n × (mid ≤ index n) → Spares z (book_of shows next n)
   spares z lo mid a =
       along shows next (λ n. Inv n × (mid ≤ index n)) (λ n r h. (keeps n r h.0, omega (arith, passes n r h.0, h.1))) (SparesNow z) (λ n h s y e. let g = gave n s y h.0 e in apart_by_pieces (In lo mid) (In (index n) (index (next n s))) (apart lo mid (index n) (index (next n s)) h.1) z y a g.0)
 

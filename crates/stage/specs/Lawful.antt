@@ -1,6 +1,6 @@
 -- The five facts that every stage shows, for every list of requests on its first book.
 use Rattle.std.specs.Prelude.{◌≡◌, ℕ, ◌+◌, ◌%◌, ◌≤◌, true, false, List, is_some, Some}
-use Rattle.std.specs.List.{AllByRecursion as All}
+use Rattle.std.specs.List.{AllByRecursion}
 use Rattle.place.specs.Pieces.{pieces, low_piece, place_width, WellFormed, PiecesApart, PlacesApart}
 use Rattle.place.specs.Registers.{has}
 use Rattle.values.specs.Sizes.{bytes}
@@ -30,9 +30,9 @@ pub record Granted (q : Questions) (r : Request) (p : Place) (n : ℕ) : Type 0 
   pub is_well_formed : WellFormed p
   pub is_as_wide_as_requested_or_wider : bytes r.width ≤ place_width p
   pub pieces_share_no_byte : PiecesApart p
-  pub registers_are_in_the_set : All (InSet q.registers) (pieces p)
+  pub registers_are_in_the_set : AllByRecursion (InSet q.registers) (pieces p)
   pub low_block_piece_is_aligned : Aligned (bytes r.alignment) (low_piece p)
-  pub reach_lies_above_its_block_bytes : All (Below n) (pieces p)
+  pub reach_lies_above_its_block_bytes : AllByRecursion (Below n) (pieces p)
 
 -- what holds of a lawful stage's book b, wherever its requests have led
 pub record LawfulHere (q : Questions) (b : Book) : Type 0 where
