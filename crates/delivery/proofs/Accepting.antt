@@ -1,7 +1,7 @@
 -- A body with no fault is accepted.
 use Rattle.std.proofs.Common.{◌≡◌, ℕ, ◌+◌, ◌<◌, ◌≤◌, Bool, true, cond, ◌&&◌, eqb, ltb, List, [], ◌∷◌, ℤ, pos, negsuc, Some, None, Option, sym, ◌∙◌, inl, inr, true≢false, arith}
 use Rattle.std.proofs.lemmas.Bool.{cases_Bool, and_parts, cond-false, cond-true, ltb-true, leb-true, eqb-true}
-use Rattle.std.specs.List.{AllByRecursion as All}
+use Rattle.std.specs.List.{AllByRecursion}
 use Rattle.machine.specs.Machine.{bytes_of}
 use Rattle.machine.specs.declared.Instruction.{Instruction}
 use Rattle.machine.specs.declared.Instruction.TheVariants.{Set, Mov, Add, Addi, Sign, Load, Store, Call, Ret, Halt}
@@ -67,7 +67,7 @@ goes_on t o i e =
     ]
 
 -- a body with no fault, from any index on
-pub no_fault_accepted : (is : List Instruction) (homes i : ℕ) → body_fault homes is i ≡ None → All (Accepted homes) is
+pub no_fault_accepted : (is : List Instruction) (homes i : ℕ) → body_fault homes is i ≡ None → AllByRecursion (Accepted homes) is
 no_fault_accepted [] homes i e = tt
 no_fault_accepted (x ∷ xs) homes i e =
     let found = goes_on (ltb i 256 && accepts homes x) (body_fault homes xs (i + 1)) i e in

@@ -1,7 +1,7 @@
 -- An accepted body is never stuck, and changes only registers that it writes and home bytes.
 use Rattle.std.proofs.Common.{◌≡◌, ℕ, ◌+◌, ◌%◌, ◌^◌, ◌<◌, ◌≤◌, Bool, true, false, eqb, ltb, List, [], ◌∷◌, length, ℤ, pos, negsuc, sym, refl, ◌∙◌, subst, arith, w32, of_z}
 use Rattle.std.proofs.lemmas.Bool.{eqb-false, ne_eqb, lt-ltb, or_parts, or_from}
-use Rattle.std.specs.List.{AllByRecursion as All}
+use Rattle.std.specs.List.{AllByRecursion}
 use Rattle.machine.specs.Machine.{Contents, reg, bytes_of, sign_of}
 use Rattle.machine.specs.declared.Instruction.{Instruction}
 use Rattle.machine.specs.declared.Instruction.TheVariants.{Set, Mov, Add, Addi, Sign, Load, Store, Call, Ret, Halt}
@@ -80,12 +80,12 @@ writes_below Call r homes l a = refl
 writes_below Ret r homes l a = refl
 writes_below Halt r homes l a = refl
 
-pub written_below : (is : List Instruction) (r homes : ℕ) → 29 < r → All (Accepted homes) is → written r is ≡ false
+pub written_below : (is : List Instruction) (r homes : ℕ) → 29 < r → AllByRecursion (Accepted homes) is → written r is ≡ false
 written_below [] r homes l a = refl
 written_below (i ∷ is) r homes l a = or_from (writes r i) (written r is) (writes_below i r homes l a.0) (written_below is r homes l a.1)
 
 pub body_runs :
-    (is : List Instruction) (homes sp : ℕ) (x : Contents) → Sane x → reg x 31 ≡ sp → All (Accepted homes) is → All Sized is → sp + homes ≤ length x.mem →
+    (is : List Instruction) (homes sp : ℕ) (x : Contents) → Sane x → reg x 31 ≡ sp → AllByRecursion (Accepted homes) is → AllByRecursion Sized is → sp + homes ≤ length x.mem →
     Leads is x (Keeps (λ r. written r is ≡ false) (Beside sp homes) x)
 body_runs [] homes sp x n s a z room = (x, refl, keeps_same n)
 body_runs (i ∷ is) homes sp x n s a z room =

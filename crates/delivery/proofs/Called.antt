@@ -1,7 +1,7 @@
 -- The callee up to the body, and after it.
 use Rattle.std.proofs.Common.{◌≡◌, ℕ, ◌+◌, ◌*◌, ◌^◌, ◌<◌, ◌≤◌, List, [], ◌∷◌, ◌++◌, length, refl, ◌∙◌, subst, inr, add-zero, arith}
 use Rattle.std.proofs.ByRecursion.{All-weaker}
-use Rattle.std.specs.List.{AllByRecursion as All}
+use Rattle.std.specs.List.{AllByRecursion}
 use Rattle.machine.specs.Machine.{Contents, reg}
 use Rattle.place.specs.Holdings.{Holding}
 use Rattle.place.specs.declared.pieces.Piece.{Piece}
@@ -28,14 +28,14 @@ saved_below_lem (Register d) sp f h k l = tt
 saved_below_lem (Block o w) sp f h k l = λ i q. inr (omega arith)
 
 -- registers of r0 to r27 that are kept have the same values
-values_kept : (rs : List ℕ) (V : ℕ → ℕ) (x y : Contents) → ((r : ℕ) → r < 28 → reg y r ≡ reg x r) → All (λ r. r < 28) rs → All (λ r. reg x r ≡ V r) rs → All (λ r. reg y r ≡ V r) rs
+values_kept : (rs : List ℕ) (V : ℕ → ℕ) (x y : Contents) → ((r : ℕ) → r < 28 → reg y r ≡ reg x r) → AllByRecursion (λ r. r < 28) rs → AllByRecursion (λ r. reg x r ≡ V r) rs → AllByRecursion (λ r. reg y r ≡ V r) rs
 values_kept [] V x y k a b = tt
 values_kept (r ∷ rs) V x y k a b = (k r a.0 ∙ b.0, values_kept rs V x y k a.1 b.1)
 
 pub callee_before :
     (args results : List Holding) (rs : List ℕ) (V : ℕ → ℕ) (sp f b : ℕ) (m : List ℕ) (c : ℕ) (x : Contents) →
-    Sane x → sp + f ≡ reg x 31 → All Fits args → AllPieces (EndsBy b) args → home_bytes (length args + length results) + 4 * length rs ≤ f → f + b < 2 ^ 15 → sp + f + b ≤ length x.mem →
-    All (λ r. r < 28) rs → All (λ r. reg x r ≡ V r) rs → AllHave x (sp + f) args m c →
+    Sane x → sp + f ≡ reg x 31 → AllByRecursion Fits args → AllPieces (EndsBy b) args → home_bytes (length args + length results) + 4 * length rs ≤ f → f + b < 2 ^ 15 → sp + f + b ≤ length x.mem →
+    AllByRecursion (λ r. r < 28) rs → AllByRecursion (λ r. reg x r ≡ V r) rs → AllHave x (sp + f) args m c →
     Leads (before_body args results rs f) x (Received args rs V sp f (home_bytes (length args + length results)) m c x)
 callee_before args results rs V sp f b m c x n s w ends deep near room small values has =
     let h : ℕ = home_bytes (length args + length results) in
@@ -63,14 +63,14 @@ callee_before args results rs V sp f b m c x n s w ends deep near room small val
 pub record Answered (results : List Holding) (rs : List ℕ) (V : ℕ → ℕ) (sp f h : ℕ) (x y : Contents) : Type 0 where
   pub pointer : reg y 31 ≡ sp + f
   pub holds : AllHave y (sp + f) results x.mem (sp + h)
-  pub restored : All (λ r. reg y r ≡ V r) rs
+  pub restored : AllByRecursion (λ r. reg y r ≡ V r) rs
   pub stays : (r : ℕ) → AllPieces (Clear r) results → But 31 r → reg x r ≡ V r → reg y r ≡ V r
-  pub keeps : Keeps (λ r. But 31 r × AllPieces (Clear r) results × All (λ d. But d r) rs) Every x y
+  pub keeps : Keeps (λ r. But 31 r × AllPieces (Clear r) results × AllByRecursion (λ d. But d r) rs) Every x y
 
 pub callee_after :
     (args results : List Holding) (rs : List ℕ) (V : ℕ → ℕ) (sp f : ℕ) (x : Contents) →
-    Sane x → reg x 31 ≡ sp → sp + f < 2 ^ 32 → All Fits results → AllApart results → AllPieces InRegister results → home_bytes (length args + length results) + 4 * length rs ≤ f → f < 2 ^ 15 → sp + f ≤ length x.mem →
-    All (λ r. r < 28) rs → All (λ r. AllPieces (Spares r) results) rs → ((r : ℕ) → V r < 2 ^ 32) → SavedAt x.mem (sp + home_bytes (length args + length results)) rs V →
+    Sane x → reg x 31 ≡ sp → sp + f < 2 ^ 32 → AllByRecursion Fits results → AllApart results → AllPieces InRegister results → home_bytes (length args + length results) + 4 * length rs ≤ f → f < 2 ^ 15 → sp + f ≤ length x.mem →
+    AllByRecursion (λ r. r < 28) rs → AllByRecursion (λ r. AllPieces (Spares r) results) rs → ((r : ℕ) → V r < 2 ^ 32) → SavedAt x.mem (sp + home_bytes (length args + length results)) rs V →
     Leads (after_body args results rs f) x (Answered results rs V sp f (home_bytes (length args)) x)
 callee_after args results rs V sp f x n s top w apart only deep near room small spared below at =
     let home : ℕ = home_bytes (length args) in
@@ -84,7 +84,7 @@ callee_after args results rs V sp f x n s top w apart only deep near room small 
     let there = saved_same rs x.mem z.mem (sp + h) V (λ i p q. got.1.mem i (missed i)) at in
     leads_then (restore_all rs h) (up f ∷ []) z (restore_all_lem rs sp h V z got.1.sane pointer small below (omega arith) (omega arith) there) λ u back.
     let unsaved = All-weaker (λ r. r < 28) (λ d. But d 31) (λ d l e. omega arith) rs small in
-    let carry = all_pieces_weaker (λ p. All (λ r. Spares r p) rs) (Carried z sp u sp) (λ p q. shielded_carried p (λ r. All (λ d. But d r) rs) Every sp z u back.2 (shielded_spared p rs sp q)) results (all_spared rs results sounds spared) in
+    let carry = all_pieces_weaker (λ p. AllByRecursion (λ r. Spares r p) rs) (Carried z sp u sp) (λ p q. shielded_carried p (λ r. AllByRecursion (λ d. But d r) rs) Every sp z u back.2 (shielded_spared p rs sp q)) results (all_spared rs results sounds spared) in
     leads_weaker (up f ∷ []) u (up_step f sp u back.2.sane near (back.2.regs 31 unsaved ∙ pointer) top) λ y high.
     let same : (r : ℕ) → r < 28 → reg y r ≡ reg u r = λ r l. high.1.regs r (λ e. omega arith) in
     let carry' = all_pieces_both Sound InRegister (Carried u sp y (sp + f)) (λ p q i. register_carried p u sp y (sp + f) same q i) results sounds only in
@@ -93,5 +93,5 @@ callee_after args results rs V sp f x n s top w apart only deep near room small 
       holds = all_carried results u sp y (sp + f) x.mem (sp + home) carry' (all_carried results z sp u sp x.mem (sp + home) carry got.0);
       restored = values_kept rs V u y same small back.0;
       stays = λ r c d e. high.1.regs r d ∙ back.1 r (got.1.regs r c ∙ e);
-      keeps = keeps_then got.1 (keeps_then {K = λ r. But 31 r × All (λ d. But d r) rs} {N = Every} back.2 high.1 (λ r q. (q.1, q.0)) (λ a q. (tt, tt))) (λ r q. (q.1, (q.0, q.2))) (λ a q. (missed a, tt));
+      keeps = keeps_then got.1 (keeps_then {K = λ r. But 31 r × AllByRecursion (λ d. But d r) rs} {N = Every} back.2 high.1 (λ r q. (q.1, q.0)) (λ a q. (tt, tt))) (λ r q. (q.1, (q.0, q.2))) (λ a q. (missed a, tt));
     }

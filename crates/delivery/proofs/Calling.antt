@@ -1,6 +1,6 @@
 -- The caller up to the call, and after it.
 use Rattle.std.proofs.Common.{◌≡◌, ℕ, ◌+◌, ◌^◌, ◌<◌, ◌≤◌, List, [], ◌∷◌, length, get_or, ◌∙◌, arith}
-use Rattle.std.specs.List.{AllByRecursion as All}
+use Rattle.std.specs.List.{AllByRecursion}
 use Rattle.machine.specs.Machine.{Contents, reg}
 use Rattle.place.specs.Holdings.{Holding}
 use Rattle.delivery.specs.Code.{home_bytes, fill_all, store_all, down, up, before_call, after_call}
@@ -19,7 +19,7 @@ pub record Sent (args : List Holding) (b sp : ℕ) (x y : Contents) : Type 0 whe
 
 pub caller_before :
     (args : List Holding) (b sp : ℕ) (x : Contents) →
-    Sane x → sp + b ≡ reg x 31 → All Fits args → AllApart args → AllPieces (EndsBy b) args → b + home_bytes (length args) < 2 ^ 15 → sp + b + home_bytes (length args) ≤ length x.mem → Leads (before_call args b) x (Sent args b sp x)
+    Sane x → sp + b ≡ reg x 31 → AllByRecursion Fits args → AllApart args → AllPieces (EndsBy b) args → b + home_bytes (length args) < 2 ^ 15 → sp + b + home_bytes (length args) ≤ length x.mem → Leads (before_call args b) x (Sent args b sp x)
 caller_before args b sp x n s f apart ends near room =
     leads_then (down b ∷ []) (fill_all args b) x (down_step b sp x n (omega arith) s) λ z low.
     let size = low.1.size in
@@ -42,7 +42,7 @@ returned_same (g ∷ hs) n l a m c e h = ((λ j q. e (a + j) ∙ h.0 j q), retur
 
 pub caller_after :
     (args results : List Holding) (b sp sp' : ℕ) (m : List ℕ) (c : ℕ) (x : Contents) →
-    Sane x → reg x 31 ≡ sp → sp + b < 2 ^ 32 → All Fits results → AllPieces InRegister results → b + home_bytes (length args) + home_bytes (length results) < 2 ^ 15 → sp + (b + home_bytes (length args)) + home_bytes (length results) ≤ length x.mem → AllHave x sp' results m c →
+    Sane x → reg x 31 ≡ sp → sp + b < 2 ^ 32 → AllByRecursion Fits results → AllPieces InRegister results → b + home_bytes (length args) + home_bytes (length results) < 2 ^ 15 → sp + (b + home_bytes (length args)) + home_bytes (length results) ≤ length x.mem → AllHave x sp' results m c →
     Leads (after_call args results b) x (Taken results sp b (b + home_bytes (length args)) m c x)
 caller_after args results b sp sp' m c x n s small f only near room has =
     let h : ℕ = b + home_bytes (length args) in

@@ -1,7 +1,7 @@
 -- Places are copied to homes.
 use Rattle.std.proofs.Common.{◌≡◌, ℕ, ◌+◌, ◌-◌, ◌^◌, ◌<◌, ◌≤◌, false, List, [], ◌∷◌, ◌++◌, length, get_or, sym, refl, ap, ◌∙◌, subst, inl, inr, add_assoc, arith}
 use Rattle.std.proofs.lemmas.Bool.{cases_lt}
-use Rattle.std.specs.List.{AllByRecursion as All}
+use Rattle.std.specs.List.{AllByRecursion}
 use Rattle.machine.specs.Machine.{Contents, reg, bytes_of}
 use Rattle.machine.specs.declared.Instruction.TheVariants.{Load, Store}
 use Rattle.machine.specs.declared.Width.TheVariants as Widths
@@ -44,7 +44,7 @@ shielded_below (Register d) sp f h k s l = λ same. omega arith
 shielded_below (Block o w) sp f h k s l = λ i q. inr (omega arith)
 
 copy_place_lem :
-    (p : Place) (sp f h b : ℕ) (x : Contents) (V : ℕ → ℕ) → Sane x → reg x 31 ≡ sp → WellFormed p → All (EndsBy b) (pieces p) → h + 8 ≤ f → f + b < 2 ^ 15 → sp + f + b ≤ length x.mem → PlaceHas x (sp + f) p V →
+    (p : Place) (sp f h b : ℕ) (x : Contents) (V : ℕ → ℕ) → Sane x → reg x 31 ≡ sp → WellFormed p → AllByRecursion (EndsBy b) (pieces p) → h + 8 ≤ f → f + b < 2 ^ 15 → sp + f + b ≤ length x.mem → PlaceHas x (sp + f) p V →
     Leads (copy_pieces f (pieces p) h) x (λ y. ((j : ℕ) → j < place_width p → get_or y.mem (sp + h + j) 0 ≡ V j) × Keeps (But 28) (Beside (sp + h) 8) x y)
 copy_place_lem (Single low) sp f h b x V n s w ends below near room has =
     leads_end (copy_piece f low h) x
@@ -77,7 +77,7 @@ place_small (Double low high) w = omega arith
 -- places that hold their homes' bytes are copied to other homes
 pub copy_all_lem :
     (hs : List Holding) (sp f h b : ℕ) (m : List ℕ) (c : ℕ) (x : Contents) →
-    Sane x → reg x 31 ≡ sp → All Fits hs → AllPieces (EndsBy b) hs → h + home_bytes (length hs) ≤ f → f + b < 2 ^ 15 → sp + f + b ≤ length x.mem → AllHave x (sp + f) hs m c →
+    Sane x → reg x 31 ≡ sp → AllByRecursion Fits hs → AllPieces (EndsBy b) hs → h + home_bytes (length hs) ≤ f → f + b < 2 ^ 15 → sp + f + b ≤ length x.mem → AllHave x (sp + f) hs m c →
     Leads (copy_all f hs h) x (λ y. Widened hs y.mem (sp + h) m c × Keeps (But 28) (Beside (sp + h) (home_bytes (length hs))) x y)
 copy_all_lem [] sp f h b m c x n s w ends below near room has = (x, refl, (tt, keeps_same n))
 copy_all_lem (a ∷ hs) sp f h b m c x n s w ends below near room has =

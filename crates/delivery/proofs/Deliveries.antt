@@ -2,7 +2,7 @@
 use Rattle.std.proofs.Common.{◌≡◌, ℕ, ◌+◌, ◌-◌, ◌*◌, ◌^◌, ◌<◌, ◌≤◌, true, List, length, get_or, Some, sym, refl, ◌∙◌, subst, inl, inr, arith}
 use Rattle.std.proofs.ByRecursion.{All-weaker}
 use Rattle.std.proofs.lemmas.Bool.{cases_Bool}
-use Rattle.std.specs.List.{AllByRecursion as All}
+use Rattle.std.specs.List.{AllByRecursion}
 use Rattle.machine.specs.Laws.{effects}
 use Rattle.machine.specs.Machine.{Contents, reg, with_reg}
 use Rattle.machine.specs.declared.Instruction.{Instruction}
@@ -49,7 +49,7 @@ module _ (args results : List Holding) (kept : ℕ) (body : List Instruction) (b
 
   link_comes_back : reg x₂ 30 ≡ link
   link_comes_back =
-      let unsaved : All (λ d. But d 30) (saved kept body) = All-weaker (λ r. (r < 28) × (has kept r ≡ true)) (λ d. But d 30) (λ d l e. omega arith) (saved kept body) (saved_kept kept body) in
+      let unsaved : AllByRecursion (λ d. But d 30) (saved kept body) = All-weaker (λ r. (r < 28) × (has kept r ≡ true)) (λ d. But d 30) (λ d l e. omega arith) (saved kept body) (saved_kept kept body) in
       replied.keeps.regs 30 ((λ e. omega arith), clear_of 30 results (omega arith) ready.results_fit, unsaved)
       ∙ (ran.regs 30 (written_below body 30 (home_bytes (length args + length results)) (omega arith) (accepted ready))
       ∙ (begun.received.keeps.regs 30 ((λ e. omega arith), (λ e. omega arith)) ∙ begun.linked))

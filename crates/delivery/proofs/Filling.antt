@@ -1,8 +1,8 @@
 -- Places are filled from homes.
-use Rattle.std.proofs.Common.{◌≡◌, ℕ, ◌+◌, ◌^◌, ◌<◌, ◌≤◌, Bool, true, false, ltb, List, [], ◌∷◌, ◌++◌, length, sym, refl, ap, ◌∙◌, subst, add_assoc, arith}
+use Rattle.std.proofs.Common.{◌≡◌, ℕ, ◌+◌, ◌^◌, ◌<◌, ◌≤◌, Bool, true, ltb, List, [], ◌∷◌, ◌++◌, length, sym, refl, ap, ◌∙◌, subst, add_assoc, arith}
 use Rattle.std.proofs.ByRecursion.{All-weaker}
 use Rattle.std.proofs.lemmas.Bool.{lt-ltb}
-use Rattle.std.specs.List.{AllByRecursion as All}
+use Rattle.std.specs.List.{AllByRecursion}
 use Rattle.machine.specs.Machine.{Contents, reg, word, loaded, widened, bytes_of, sign_of}
 use Rattle.machine.specs.declared.Instruction.{Instruction}
 use Rattle.machine.specs.declared.Instruction.TheVariants.{Set, Sign, Load}
@@ -100,8 +100,8 @@ fill_high p t w base home sp s m x n at l e f ends below near room agree =
 -- a place is filled from its home
 fill_place_lem :
     (p : Place) (t : Kind) (w : Size) (base home sp : ℕ) (m : List ℕ) (x : Contents) →
-    Sane x → reg x 31 ≡ sp → WellFormed p → PiecesApart p → All (EndsBy base) (pieces p) → base ≤ home → home + 8 ≤ 2 ^ 15 → sp + home + 8 ≤ length x.mem → AgreeFrom (sp + base) x.mem m →
-    Leads (fill_pieces t w (pieces p) home) x (λ y. PlaceHas y sp p (widened_byte t w m (sp + home)) × Keeps (λ r. All (Clear r) (pieces p)) (λ a. All (Misses sp a) (pieces p)) x y)
+    Sane x → reg x 31 ≡ sp → WellFormed p → PiecesApart p → AllByRecursion (EndsBy base) (pieces p) → base ≤ home → home + 8 ≤ 2 ^ 15 → sp + home + 8 ≤ length x.mem → AgreeFrom (sp + base) x.mem m →
+    Leads (fill_pieces t w (pieces p) home) x (λ y. PlaceHas y sp p (widened_byte t w m (sp + home)) × Keeps (λ r. AllByRecursion (Clear r) (pieces p)) (λ a. AllByRecursion (Misses sp a) (pieces p)) x y)
 fill_place_lem (Single low) t w base home sp m x n s f apart ends below near room agree =
     let code : List Instruction = Load (through low) 31 (offset home) (moved w) (by_sign t) ∷ settle low in
     leads_end code x (leads_weaker code x (fill_low low t w base home sp m x n s f ends.0 below near room agree) λ y got. (got.0, keeps_weaker got.2 (λ r h. h.0) (λ a h. h.0)))
@@ -123,15 +123,15 @@ fill_place_lem (Double low high) t w base home sp m x n s f apart ends below nea
     ))
 
 -- no place has a register above r28
-pub clear_of : (r : ℕ) (hs : List Holding) → 28 < r → All Fits hs → AllPieces (Clear r) hs
+pub clear_of : (r : ℕ) (hs : List Holding) → 28 < r → AllByRecursion Fits hs → AllPieces (Clear r) hs
 clear_of r [] l f = tt
 clear_of r (h ∷ hs) l f =
     (All-weaker Sound (Clear r) (λ p g same. omega (arith, through_below p g.0)) (pieces h.place) (pieces_sound h.place f.0.is_well_formed), clear_of r hs l f.1)
 
 -- pieces keep what they hold while places apart from them are filled
 pieces_kept :
-    (ps : List Piece) (hs : List Holding) (sp : ℕ) (x y : Contents) → All Sound ps → All (λ q. AllPieces (Apart q) hs) ps → Keeps (λ r. AllPieces (Clear r) hs) (λ a. AllPieces (Misses sp a) hs) x y →
-    All (Carried x sp y sp) ps
+    (ps : List Piece) (hs : List Holding) (sp : ℕ) (x y : Contents) → AllByRecursion Sound ps → AllByRecursion (λ q. AllPieces (Apart q) hs) ps → Keeps (λ r. AllPieces (Clear r) hs) (λ a. AllPieces (Misses sp a) hs) x y →
+    AllByRecursion (Carried x sp y sp) ps
 pieces_kept [] hs sp x y c d k = tt
 pieces_kept (p ∷ ps) hs sp x y c d k =
     (shielded_carried p (λ r. AllPieces (Clear r) hs) (λ a. AllPieces (Misses sp a) hs) sp x y k (shielded_all p hs sp c.0.0 d.0), pieces_kept ps hs sp x y c.1 d.1 k)
@@ -139,7 +139,7 @@ pieces_kept (p ∷ ps) hs sp x y c d k =
 -- places that share no byte are filled from their homes; m is memory with the same homes
 pub fill_all_lem :
     (hs : List Holding) (base home sp : ℕ) (m : List ℕ) (x : Contents) →
-    Sane x → reg x 31 ≡ sp → All Fits hs → AllApart hs → AllPieces (EndsBy base) hs → base ≤ home → home + home_bytes (length hs) ≤ 2 ^ 15 → sp + home + home_bytes (length hs) ≤ length x.mem → AgreeFrom (sp + base) x.mem m →
+    Sane x → reg x 31 ≡ sp → AllByRecursion Fits hs → AllApart hs → AllPieces (EndsBy base) hs → base ≤ home → home + home_bytes (length hs) ≤ 2 ^ 15 → sp + home + home_bytes (length hs) ≤ length x.mem → AgreeFrom (sp + base) x.mem m →
     Leads (fill_all hs home) x (λ y. AllHave y sp hs m (sp + home) × Keeps (λ r. AllPieces (Clear r) hs) (λ a. AllPieces (Misses sp a) hs) x y)
 fill_all_lem [] base home sp m x n s f apart ends below near room agree = (x, refl, (tt, keeps_same n))
 fill_all_lem (h ∷ hs) base home sp m x n s f apart ends below near room agree =

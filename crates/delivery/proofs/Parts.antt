@@ -2,7 +2,7 @@
 use Rattle.std.proofs.Common.{◌≡◌, ℕ, ◌+◌, ◌*◌, ◌^◌, ◌<◌, ◌≤◌, true, false, List, length, sym, ◌∙◌, inr, arith}
 use Rattle.std.proofs.ByRecursion.{All-weaker}
 use Rattle.std.proofs.lemmas.List.{get_or-set_same}
-use Rattle.std.specs.List.{AllByRecursion as All}
+use Rattle.std.specs.List.{AllByRecursion}
 use Rattle.machine.specs.Machine.{Contents, reg, with_reg}
 use Rattle.machine.specs.declared.Instruction.{Instruction}
 use Rattle.place.specs.Holdings.{Holding}
@@ -40,12 +40,12 @@ Resumed args results b f sp q x₂ y = Taken results (sp + f) b (b + home_bytes 
 pub clear_kept : (hs : List Holding) (r : ℕ) → r ≤ 27 → AllPieces (Spares r) hs → AllPieces (Clear r) hs
 clear_kept hs r l h = all_pieces_weaker (Spares r) (Clear r) (λ p s. spared_clear p r (λ e. omega arith) s) hs h
 
-pub accepted : {args results : List Holding} {kept : ℕ} {body : List Instruction} {b : ℕ} {x : Contents} → Ready args results kept body b x → All (Accepted (home_bytes (length args + length results))) body
+pub accepted : {args results : List Holding} {kept : ℕ} {body : List Instruction} {b : ℕ} {x : Contents} → Ready args results kept body b x → AllByRecursion (Accepted (home_bytes (length args + length results))) body
 accepted {args} {results} {kept} {body} ready = no_fault_accepted body (home_bytes (length args + length results)) 0 ready.body_has_no_fault
 
 module _ (args results : List Holding) (kept : ℕ) (body : List Instruction) (b f sp : ℕ) (x : Contents)
     (ready : Ready args results kept body b x) (deep : home_bytes (length args + length results) + 4 * length (saved kept body) ≤ f) (near : f + b < 2 ^ 15) (top : sp + f + b ≡ reg x 31) where
-  saved_low : All (λ r. r < 28) (saved kept body)
+  saved_low : AllByRecursion (λ r. r < 28) (saved kept body)
   saved_low = All-weaker (λ r. (r < 28) × (has kept r ≡ true)) (λ r. r < 28) (λ r k. k.0) (saved kept body) (saved_kept kept body)
 
   pub sends : Leads (before_call args b) x (Sent args b (sp + f) x)
@@ -61,7 +61,7 @@ module _ (args results : List Holding) (kept : ℕ) (body : List Instruction) (b
       let within = ready.homes_are_within_memory in
       let rs : List ℕ = saved kept body in
       let carry = all_pieces_weaker Sound (Carried x₁ (sp + f) u (sp + f)) (λ p q. shielded_carried p (But 30) Every (sp + f) x₁ u k (shielded_but p 30 (sp + f) (omega arith) q)) args (all_sound args ready.arguments_fit) in
-      let values : All (λ r. reg u r ≡ reg x r) rs =
+      let values : AllByRecursion (λ r. reg u r ≡ reg x r) rs =
       All-weaker (λ r. (r < 28) × (has kept r ≡ true)) (λ r. reg u r ≡ reg x r)
       (λ r c. k.regs r (λ e. omega arith) ∙ sent.keeps.regs r ((λ e. omega arith), clear_kept args r (omega arith) (ready.no_argument_has_a_kept_register r c.1))) rs (saved_kept kept body) in
       leads_weaker (before_body args results rs f) u
@@ -89,7 +89,7 @@ module _ (args results : List Holding) (kept : ℕ) (body : List Instruction) (b
         let bound : reg x 31 < 2 ^ 32 = bits 31 in
         let pointer : reg q 31 ≡ sp = ran.regs 31 (written_below body 31 h (omega arith) (accepted ready)) ∙ begun.received.pointer in
         let saves : SavedAt q.mem (sp + h) rs (reg x) = saved_same rs p.mem q.mem (sp + h) (reg x) (λ i c d. ran.mem i (inr c)) begun.received.saves in
-        let spared : All (λ r. AllPieces (Spares r) results) rs =
+        let spared : AllByRecursion (λ r. AllPieces (Spares r) results) rs =
         All-weaker (λ r. (r < 28) × (has kept r ≡ true)) (λ r. AllPieces (Spares r) results) (λ r c. ready.no_result_has_a_kept_register r c.1) rs (saved_kept kept body) in
         callee_after args results rs (reg x) sp f q ran.sane pointer (omega arith) ready.results_fit ready.results_are_apart ready.results_travel_in_registers deep (omega arith) (omega arith) saved_low spared bits saves
 

@@ -1,7 +1,7 @@
 -- What pieces and places hold, byte by byte, and what leaves it alone.
 use Rattle.std.proofs.Common.{◌≡◌, ℕ, ◌+◌, ◌<◌, ◌≤◌, List, [], ◌∷◌, get_or, sym, refl, ap, ◌∙◌, inl, inr, arith}
 use Rattle.std.proofs.ByRecursion.{All-weaker}
-use Rattle.std.specs.List.{AllByRecursion as All}
+use Rattle.std.specs.List.{AllByRecursion}
 use Rattle.machine.specs.Machine.{Contents, reg, bytes_of}
 use Rattle.place.specs.Holdings.{Holding}
 use Rattle.place.specs.Pieces.{of_register, of_block, pieces, piece_width, Placeable, WellFormed, Apart, PlacesApart}
@@ -40,7 +40,7 @@ pub piece_carried : (p : Piece) (x : Contents) (sp : ℕ) (y : Contents) (sp' : 
 piece_carried (Register d) x sp y sp' V c h = λ i l. ap (λ v. byte_of v i) c ∙ h i l
 piece_carried (Block o w) x sp y sp' V c h = λ i l. c i l ∙ h i l
 
-pub place_carried : (p : Place) (x : Contents) (sp : ℕ) (y : Contents) (sp' : ℕ) (V : ℕ → ℕ) → All (Carried x sp y sp') (pieces p) → PlaceHas x sp p V → PlaceHas y sp' p V
+pub place_carried : (p : Place) (x : Contents) (sp : ℕ) (y : Contents) (sp' : ℕ) (V : ℕ → ℕ) → AllByRecursion (Carried x sp y sp') (pieces p) → PlaceHas x sp p V → PlaceHas y sp' p V
 place_carried (Single low) x sp y sp' V c h = piece_carried low x sp y sp' V c.0 h
 place_carried (Double low high) x sp y sp' V c h = (piece_carried low x sp y sp' V c.0 h.0, piece_carried high x sp y sp' (λ i. V (4 + i)) c.1.0 h.1)
 
@@ -50,13 +50,13 @@ all_carried (a ∷ hs) x sp y sp' m c k h =
     (place_carried a.place x sp y sp' (widened_byte a.kind a.width m c) k.0 h.0, all_carried hs x sp y sp' m (c + home_size) k.1 h.1)
 
 pub all_pieces_weaker : (P Q : Piece → Type 0) → ((p : Piece) → P p → Q p) → (hs : List Holding) → AllPieces P hs → AllPieces Q hs
-all_pieces_weaker P Q f hs h = All-weaker (λ g. All P (pieces g.place)) (λ g. All Q (pieces g.place)) (λ g. All-weaker P Q f (pieces g.place)) hs h
+all_pieces_weaker P Q f hs h = All-weaker (λ g. AllByRecursion P (pieces g.place)) (λ g. AllByRecursion Q (pieces g.place)) (λ g. All-weaker P Q f (pieces g.place)) hs h
 
 pub all_pieces_both : (P Q R : Piece → Type 0) → ((p : Piece) → P p → Q p → R p) → (hs : List Holding) → AllPieces P hs → AllPieces Q hs → AllPieces R hs
 all_pieces_both P Q R f [] a b = tt
 all_pieces_both P Q R f (h ∷ hs) a b = (both (pieces h.place) a.0 b.0, all_pieces_both P Q R f hs a.1 b.1)
   where
-    both : (ps : List Piece) → All P ps → All Q ps → All R ps
+    both : (ps : List Piece) → AllByRecursion P ps → AllByRecursion Q ps → AllByRecursion R ps
     both [] a b = tt
     both (p ∷ ps) a b = (f p a.0 b.0, both ps a.1 b.1)
 
@@ -98,23 +98,23 @@ shielded_all (Register d) hs sp f a = all_pieces_weaker (Apart (Register d)) (Cl
 shielded_all (Block o w) hs sp f a = λ i l. all_pieces_weaker (Apart (Block o w)) (Misses sp (sp + o + i)) (λ q b. shielded_apart (Block o w) q sp f b i l) hs a
 
 -- each piece of a place is apart from every place that the place is apart from
-pub pieces_apart : (p : Place) (hs : List Holding) → All (λ g. PlacesApart p g.place) hs → All (λ q. AllPieces (Apart q) hs) (pieces p)
-pieces_apart (Single low) hs a = (All-weaker (λ g. PlacesApart (Single low) g.place) (λ g. All (Apart low) (pieces g.place)) (λ g b. b.0) hs a, tt)
+pub pieces_apart : (p : Place) (hs : List Holding) → AllByRecursion (λ g. PlacesApart p g.place) hs → AllByRecursion (λ q. AllPieces (Apart q) hs) (pieces p)
+pieces_apart (Single low) hs a = (All-weaker (λ g. PlacesApart (Single low) g.place) (λ g. AllByRecursion (Apart low) (pieces g.place)) (λ g b. b.0) hs a, tt)
 pieces_apart (Double low high) hs a = (
-  All-weaker (λ g. PlacesApart (Double low high) g.place) (λ g. All (Apart low) (pieces g.place)) (λ g b. b.0) hs a,
-  (All-weaker (λ g. PlacesApart (Double low high) g.place) (λ g. All (Apart high) (pieces g.place)) (λ g b. b.1.0) hs a, tt),
+  All-weaker (λ g. PlacesApart (Double low high) g.place) (λ g. AllByRecursion (Apart low) (pieces g.place)) (λ g b. b.0) hs a,
+  (All-weaker (λ g. PlacesApart (Double low high) g.place) (λ g. AllByRecursion (Apart high) (pieces g.place)) (λ g b. b.1.0) hs a, tt),
 )
 
 -- a piece of a place: in r0 to r27, and of at most 4 bytes
 abbrev pub Sound : Piece → Type 0
 Sound p = Placeable p × (piece_width p ≤ 4)
 
-pub pieces_sound : (p : Place) → WellFormed p → All Sound (pieces p)
+pub pieces_sound : (p : Place) → WellFormed p → AllByRecursion Sound (pieces p)
 pieces_sound (Single low) f = (f, tt)
 pieces_sound (Double low high) f = ((f.0, omega arith), ((f.1, omega arith), tt))
 
 -- every piece of these places is sound
-pub all_sound : (hs : List Holding) → All Fits hs → AllPieces Sound hs
+pub all_sound : (hs : List Holding) → AllByRecursion Fits hs → AllPieces Sound hs
 all_sound [] f = tt
 all_sound (h ∷ hs) f = (pieces_sound h.place f.0.is_well_formed, all_sound hs f.1)
 
@@ -137,14 +137,14 @@ shielded_but (Register d) r sp l s = λ same. omega arith
 shielded_but (Block o w) r sp l s = λ i q. tt
 
 -- a change of registers that a piece spares leaves it alone
-pub shielded_spared : (p : Piece) (rs : List ℕ) (sp : ℕ) → All (λ r. Spares r p) rs → Shielded (λ r. All (λ d. But d r) rs) Every sp p
+pub shielded_spared : (p : Piece) (rs : List ℕ) (sp : ℕ) → AllByRecursion (λ r. Spares r p) rs → Shielded (λ r. AllByRecursion (λ d. But d r) rs) Every sp p
 shielded_spared (Register d) rs sp h = All-weaker (λ r. Spares r (Register d)) (λ r. But r d) (λ r n same. n (sym same)) rs h
 shielded_spared (Block o w) rs sp h = λ i q. tt
 
 -- what all of these places spare, each of their pieces spares
-pub all_spared : (rs : List ℕ) (hs : List Holding) → AllPieces Sound hs → All (λ r. AllPieces (Spares r) hs) rs → AllPieces (λ p. All (λ r. Spares r p) rs) hs
+pub all_spared : (rs : List ℕ) (hs : List Holding) → AllPieces Sound hs → AllByRecursion (λ r. AllPieces (Spares r) hs) rs → AllPieces (λ p. AllByRecursion (λ r. Spares r p) rs) hs
 all_spared [] hs s h = all_pieces_weaker Sound (λ p. Unit {0}) (λ p q. tt) hs s
-all_spared (r ∷ rs) hs s h = all_pieces_both (Spares r) (λ p. All (λ r. Spares r p) rs) (λ p. All (λ r. Spares r p) (r ∷ rs)) (λ p a b. (a, b)) hs h.0 (all_spared rs hs s h.1)
+all_spared (r ∷ rs) hs s h = all_pieces_both (Spares r) (λ p. AllByRecursion (λ r. Spares r p) rs) (λ p. AllByRecursion (λ r. Spares r p) (r ∷ rs)) (λ p a b. (a, b)) hs h.0 (all_spared rs hs s h.1)
 
 -- a register other than r28 that pieces spare
 pub spared_clear : (p : Piece) (r : ℕ) → But 28 r → Spares r p → Clear r p

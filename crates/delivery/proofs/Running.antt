@@ -4,7 +4,7 @@ use Rattle.std.proofs.lemmas.List.{length-append, append_assoc}
 use Rattle.machine.proofs.Calls.{call_of_straight_lines_ends, call_step, holds_append}
 use Rattle.machine.proofs.Straight.{straight_line_composes}
 use Rattle.machine.specs.Laws.{effects, Holds, calling}
-use Rattle.machine.specs.Machine.{Contents, Run, counted, runs, running, with_reg}
+use Rattle.machine.specs.Machine.{Contents, counted, runs, running, with_reg}
 use Rattle.machine.specs.declared.Instruction.{Instruction}
 use Rattle.machine.specs.declared.Instruction.TheVariants.{Call, Ret, Halt}
 use Rattle.machine.specs.declared.Side.TheVariants.{Caller, Callee}

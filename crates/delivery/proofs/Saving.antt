@@ -3,7 +3,7 @@ use Rattle.std.proofs.Common.{◌≡◌, ℕ, zero, suc, ◌+◌, ◌*◌, ◌^�
 use Rattle.std.proofs.ByRecursion.{All-append, All-weaker}
 use Rattle.std.proofs.lemmas.List.{length-append}
 use Rattle.std.proofs.lemmas.Bool.{cases_eq, and_parts, and_from, cond_both}
-use Rattle.std.specs.List.{AllByRecursion as All}
+use Rattle.std.specs.List.{AllByRecursion}
 use Rattle.machine.specs.Machine.{Contents, reg, word}
 use Rattle.machine.specs.declared.Instruction.{Instruction}
 use Rattle.machine.specs.declared.Instruction.TheVariants.{Load, Store}
@@ -27,7 +27,7 @@ saved_same [] m n a V e h = tt
 saved_same (r ∷ rs) m n a V e h = ((λ i l. e (a + i) (omega arith) (omega arith) ∙ h.0 i l), saved_same rs m n (a + 4) V (λ i p q. e i (omega arith) (omega arith)) h.1)
 
 pub save_all_lem :
-    (rs : List ℕ) (sp h : ℕ) (V : ℕ → ℕ) (x : Contents) → Sane x → reg x 31 ≡ sp → All (λ r. r < 28) rs → All (λ r. reg x r ≡ V r) rs → h + 4 * length rs ≤ 2 ^ 15 → sp + h + 4 * length rs ≤ length x.mem →
+    (rs : List ℕ) (sp h : ℕ) (V : ℕ → ℕ) (x : Contents) → Sane x → reg x 31 ≡ sp → AllByRecursion (λ r. r < 28) rs → AllByRecursion (λ r. reg x r ≡ V r) rs → h + 4 * length rs ≤ 2 ^ 15 → sp + h + 4 * length rs ≤ length x.mem →
     Leads (save_all rs h) x (λ y. SavedAt y.mem (sp + h) rs V × Keeps Every (Beside (sp + h) (4 * length rs)) x y)
 save_all_lem [] sp h V x n s l v near room = (x, refl, (tt, keeps_same n))
 save_all_lem (r ∷ rs) sp h V x n s l v near room =
@@ -42,8 +42,8 @@ save_all_lem (r ∷ rs) sp h V x n s l v near room =
 
 -- saved registers are loaded back, and registers that have their values keep them
 pub restore_all_lem :
-    (rs : List ℕ) (sp h : ℕ) (V : ℕ → ℕ) (x : Contents) → Sane x → reg x 31 ≡ sp → All (λ r. r < 28) rs → ((r : ℕ) → V r < 2 ^ 32) → h + 4 * length rs ≤ 2 ^ 15 → sp + h + 4 * length rs ≤ length x.mem → SavedAt x.mem (sp + h) rs V →
-    Leads (restore_all rs h) x (λ y. All (λ r. reg y r ≡ V r) rs × ((r : ℕ) → reg x r ≡ V r → reg y r ≡ V r) × Keeps (λ r. All (λ d. But d r) rs) Every x y)
+    (rs : List ℕ) (sp h : ℕ) (V : ℕ → ℕ) (x : Contents) → Sane x → reg x 31 ≡ sp → AllByRecursion (λ r. r < 28) rs → ((r : ℕ) → V r < 2 ^ 32) → h + 4 * length rs ≤ 2 ^ 15 → sp + h + 4 * length rs ≤ length x.mem → SavedAt x.mem (sp + h) rs V →
+    Leads (restore_all rs h) x (λ y. AllByRecursion (λ r. reg y r ≡ V r) rs × ((r : ℕ) → reg x r ≡ V r → reg y r ≡ V r) × Keeps (λ r. AllByRecursion (λ d. But d r) rs) Every x y)
 restore_all_lem [] sp h V x n s l b near room at = (x, refl, (tt, (λ r e. e), keeps_same n))
 restore_all_lem (r ∷ rs) sp h V x n s l b near room at =
     leads_then (Load r 31 (offset h) Widths.Four false ∷ []) (restore_all rs (h + 4)) x (load_offset sp r h Widths.Four false x n s (omega arith) (omega arith) (omega arith)) λ z got.
@@ -57,21 +57,21 @@ restore_all_lem (r ∷ rs) sp h V x n s l b near room at =
     ((rest.1 r value, rest.0), (λ d e. rest.1 d (stays d e)), keeps_then got.1 rest.2 (λ c q. q) (λ a q. (tt, tt)))
 
 -- a saved register is below n, and kept
-below_kept : (n kept : ℕ) (body : List Instruction) → All (λ r. (r < n) × (has kept r ≡ true)) (saved_below n kept body)
+below_kept : (n kept : ℕ) (body : List Instruction) → AllByRecursion (λ r. (r < n) × (has kept r ≡ true)) (saved_below n kept body)
 below_kept zero kept body = tt
 below_kept (suc k) kept body =
     let P : ℕ → Type 0 = λ r. (r < suc k) × (has kept r ≡ true) in
     let test : Bool = has kept k && written k body in
     All-append P (saved_below k kept body) (cond test (k ∷ []) [])
     (All-weaker (λ r. (r < k) × (has kept r ≡ true)) P (λ r h. (omega arith, h.1)) (saved_below k kept body) (below_kept k kept body))
-    (cond_both test (k ∷ []) [] (All P) (λ e. ((omega arith, (and_parts (has kept k) (written k body) e).0), tt)) (λ e. tt))
+    (cond_both test (k ∷ []) [] (AllByRecursion P) (λ e. ((omega arith, (and_parts (has kept k) (written k body) e).0), tt)) (λ e. tt))
 
-all_parts : {X : Type 0} (P : X → Type 0) (xs ys : List X) → All P (xs ++ ys) → All P xs × All P ys
+all_parts : {X : Type 0} (P : X → Type 0) (xs ys : List X) → AllByRecursion P (xs ++ ys) → AllByRecursion P xs × AllByRecursion P ys
 all_parts P [] ys h = (tt, h)
 all_parts P (x ∷ xs) ys h = let rest = all_parts P xs ys h.1 in ((h.0, rest.0), rest.1)
 
 -- every kept register below n that the body writes is saved
-below_every : (P : ℕ → Type 0) (n kept : ℕ) (body : List Instruction) → All P (saved_below n kept body) → (r : ℕ) → r < n → has kept r ≡ true → written r body ≡ true → P r
+below_every : (P : ℕ → Type 0) (n kept : ℕ) (body : List Instruction) → AllByRecursion P (saved_below n kept body) → (r : ℕ) → r < n → has kept r ≡ true → written r body ≡ true → P r
 below_every P zero kept body h r l k w = absurd (omega arith)
 below_every P (suc j) kept body h r l k w =
     let test : Bool = has kept j && written j body in
@@ -79,7 +79,7 @@ below_every P (suc j) kept body h r l k w =
     elim (cases_eq r j) [
       | inl e ↦
           let both : test ≡ true = subst (λ (c : ℕ). (has kept c && written c body) ≡ true) e (and_from (has kept r) (written r body) k w) in
-          let last : All P (j ∷ []) = subst (λ (b : Bool). All P (cond b (j ∷ []) [])) both parts.1 in
+          let last : AllByRecursion P (j ∷ []) = subst (λ (b : Bool). AllByRecursion P (cond b (j ∷ []) [])) both parts.1 in
           subst P (sym e) last.0
       | inr d ↦ below_every P j kept body parts.0 r (omega arith) k w
     ]
@@ -93,11 +93,11 @@ below_few (suc k) kept body =
     simp length-append (omega arith)
 
 -- the same of the registers that the callee saves, those below 28
-pub saved_kept : (kept : ℕ) (body : List Instruction) → All (λ r. (r < 28) × (has kept r ≡ true)) (saved kept body)
+pub saved_kept : (kept : ℕ) (body : List Instruction) → AllByRecursion (λ r. (r < 28) × (has kept r ≡ true)) (saved kept body)
 unfolding saved
 saved_kept kept body = below_kept 28 kept body
 
-pub saved_every : (P : ℕ → Type 0) (kept : ℕ) (body : List Instruction) → All P (saved kept body) → (r : ℕ) → r < 28 → has kept r ≡ true → written r body ≡ true → P r
+pub saved_every : (P : ℕ → Type 0) (kept : ℕ) (body : List Instruction) → AllByRecursion P (saved kept body) → (r : ℕ) → r < 28 → has kept r ≡ true → written r body ≡ true → P r
 unfolding saved
 saved_every P kept body h r l k w = below_every P 28 kept body h r l k w
 

@@ -1,7 +1,7 @@
 -- Results in registers are stored to homes.
 use Rattle.std.proofs.Common.{◌≡◌, ℕ, ◌+◌, ◌-◌, ◌^◌, ◌<◌, ◌≤◌, true, ltb, ◌⊎◌, List, [], ◌∷◌, ◌++◌, length, get_or, sym, refl, ap, ◌∙◌, subst, inl, inr, add-zero, add_assoc, arith}
 use Rattle.std.proofs.lemmas.Bool.{cases_lt, lt-ltb}
-use Rattle.std.specs.List.{AllByRecursion as All}
+use Rattle.std.specs.List.{AllByRecursion}
 use Rattle.machine.specs.Machine.{Contents, reg, bytes_of}
 use Rattle.machine.specs.declared.Instruction.{Instruction}
 use Rattle.machine.specs.declared.Instruction.TheVariants.{Store}
@@ -65,7 +65,7 @@ moved_within Eight = omega arith
 
 -- the low bytes of a place in registers are stored
 store_place_lem :
-    (p : Place) (w : Size) (sp h sp' : ℕ) (x : Contents) (V : ℕ → ℕ) → Sane x → reg x 31 ≡ sp → WellFormed p → bytes w ≤ place_width p → All InRegister (pieces p) → h + 8 ≤ 2 ^ 15 → sp + h + bytes w ≤ length x.mem → PlaceHas x sp' p V →
+    (p : Place) (w : Size) (sp h sp' : ℕ) (x : Contents) (V : ℕ → ℕ) → Sane x → reg x 31 ≡ sp → WellFormed p → bytes w ≤ place_width p → AllByRecursion InRegister (pieces p) → h + 8 ≤ 2 ^ 15 → sp + h + bytes w ≤ length x.mem → PlaceHas x sp' p V →
     Leads (store_pieces w (pieces p) 0 h) x (λ y. ((j : ℕ) → j < bytes w → get_or y.mem (sp + h + j) 0 ≡ V j) × Keeps Every (Beside (sp + h) (bytes w)) x y)
 store_place_lem (Single (Block o v)) w sp h sp' x V n s f wide only near room has = absurd only.0
 store_place_lem (Single (Register d)) w sp h sp' x V n s f wide only near room has =
@@ -113,7 +113,7 @@ result_above (h ∷ hs) a i (inr r) = let l = result_above hs (a + home_size) i 
 -- results that hold their homes' bytes are stored to other homes
 pub store_all_lem :
     (hs : List Holding) (sp h sp' : ℕ) (m : List ℕ) (c : ℕ) (x : Contents) →
-    Sane x → reg x 31 ≡ sp → All Fits hs → AllPieces InRegister hs → h + home_bytes (length hs) ≤ 2 ^ 15 → sp + h + home_bytes (length hs) ≤ length x.mem → AllHave x sp' hs m c →
+    Sane x → reg x 31 ≡ sp → AllByRecursion Fits hs → AllPieces InRegister hs → h + home_bytes (length hs) ≤ 2 ^ 15 → sp + h + home_bytes (length hs) ≤ length x.mem → AllHave x sp' hs m c →
     Leads (store_all hs h) x (λ y. Returned hs y.mem (sp + h) m c × Keeps Every (λ i. ResultByte hs (sp + h) i → ⊥) x y)
 store_all_lem [] sp h sp' m c x n s f only near room has = (x, refl, (tt, keeps_same n))
 store_all_lem (a ∷ hs) sp h sp' m c x n s f only near room has =

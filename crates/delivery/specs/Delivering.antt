@@ -1,6 +1,6 @@
 -- What a call delivers.
 use Rattle.std.specs.Prelude.{◌≡◌, ℕ, ◌+◌, ◌^◌, ◌<◌, ◌≤◌, true, ◌⊎◌, List, [], ◌∷◌, length, Some, None, slice_index}
-use Rattle.std.specs.List.{AllByRecursion as All}
+use Rattle.std.specs.List.{AllByRecursion}
 use Rattle.machine.specs.Laws.{effects, Holds}
 use Rattle.machine.specs.Machine.{Contents, State, Run, reg, running, runs}
 use Rattle.machine.specs.declared.Instruction.{Instruction}
@@ -32,7 +32,7 @@ pub record Fits (h : Holding) : Type 0 where
 -- no two places of a list share a byte
 abbrev pub AllApart : List Holding → Type 0
 AllApart [] = Unit {0}
-AllApart (h ∷ hs) = All (λ g. PlacesApart h.place g.place) hs × AllApart hs
+AllApart (h ∷ hs) = AllByRecursion (λ g. PlacesApart h.place g.place) hs × AllApart hs
 
 -- a piece that ends within the first b bytes of the block, or a register
 abbrev pub EndsBy : ℕ → Piece → Type 0
@@ -49,7 +49,7 @@ Spares r (Register d) = r ≡ d → ⊥
 Spares r (Block o w) = Unit {0}
 
 abbrev pub AllPieces : (Piece → Type 0) → List Holding → Type 0
-AllPieces P hs = All (λ h. All P (pieces h.place)) hs
+AllPieces P hs = AllByRecursion (λ h. AllByRecursion P (pieces h.place)) hs
 
 -- the bytes of a SET are 32 bits, as in every instruction record
 abbrev pub Sized : Instruction → Type 0
@@ -67,8 +67,8 @@ Sized Halt = Unit {0}
 -- a call that is ready to run from x: where its values travel, what it keeps, and a stack that is deep enough
 pub record Ready (args results : List Holding) (kept : ℕ) (body : List Instruction) (b : ℕ) (x : Contents) : Type 0 where
   pub contents_are_sane : Sane x
-  pub arguments_fit : All Fits args
-  pub results_fit : All Fits results
+  pub arguments_fit : AllByRecursion Fits args
+  pub results_fit : AllByRecursion Fits results
   pub arguments_are_apart : AllApart args
   pub results_are_apart : AllApart results
   pub arguments_are_at_most_16 : length args ≤ 16
@@ -80,7 +80,7 @@ pub record Ready (args results : List Holding) (kept : ℕ) (body : List Instruc
   pub no_argument_has_a_kept_register : (r : ℕ) → has kept r ≡ true → AllPieces (Spares r) args
   pub no_result_has_a_kept_register : (r : ℕ) → has kept r ≡ true → AllPieces (Spares r) results
   pub body_has_no_fault : body_fault (home_bytes (length args + length results)) body 0 ≡ None
-  pub body_is_sized : All Sized body
+  pub body_is_sized : AllByRecursion Sized body
   pub stack_is_deep_enough : b + frame_bytes args results (saved kept body) ≤ reg x 31
   pub homes_are_within_memory : reg x 31 + home_bytes (length args + length results) ≤ length x.mem
 

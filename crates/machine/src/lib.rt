@@ -1,9 +1,9 @@
 // A register machine: 32 registers of 32 bits, a memory of bytes that is lent to it, and two lists of instructions.
 #![tactic(auto)]
 
-ghost use Rattle.std.specs.Prelude.{◌≡◌, ◌+◌, ◌-◌, ◌^◌, ◌<◌, ◌≤◌, true, length, is_some, IfOk, if◌then◌else◌, Some, None, OnErr, OnOk, OnSome, nat_lt};
+ghost use Rattle.std.specs.Prelude.{◌≡◌, ◌+◌, ◌-◌, ◌^◌, ◌<◌, ◌≤◌, true, length, is_some, IfOk, if◌then◌else◌, Some, None, OnErr, OnOk, OnSome, nat_lt, ◌&&◌};
 ghost use Rattle.std.specs.List.{slice_get};
-ghost use Rattle.machine.specs.Machine.{address, bytes_of, loaded, stored, sign_of, contents_of, state_of, effect, next, or_same, instruction_at, runs, outcome_of, fault_in};
+ghost use Rattle.machine.specs.Machine.{ok, reg, address, bytes_of, loaded, stored, sign_of, contents_of, state_of, effect, next, or_same, instruction_at, runs, outcome_of, fault_in};
 ghost use Rattle.machine.specs.Fetch.{carried, LeadsTo, index_of};
 ghost use Rattle.machine.specs.Laws.{OnlyWritten, LargerBudgetGoesOn, StoppedStays, SpentUsesUpBudget, StuckExactlyWhere, StraightLineComposes, CallOfStraightLinesEnds};
 
@@ -194,6 +194,13 @@ impl Machine {
         }
     }
 
+    // Whether LOAD and STORE have a place at register `b`'s value plus `i`.
+    fn reaches(&self, memory: &[u8], b: u8, i: i16, width: Width) -> bool
+        ensures whether_the_register_exists_and_all_bytes_lie_inside { result ≡ (ok b && is_some (address (reg (contents_of self.now memory.now) b) i (bytes_of width) (length memory.now))) }
+    {
+        b < 32 && place(self.registers[b as usize], i, width.bytes(), memory.len()).is_some()
+    }
+
     // Whether an instruction can be done in this mode, with these registers and this memory.
     fn can_do(&self, memory: &[u8], instruction: Instruction) -> bool
         ensures whether_the_instruction_leads_to_a_state { result ≡ is_some (carried self.now.mode (contents_of self.now memory.now) instruction) }
@@ -207,18 +214,8 @@ impl Machine {
             Instruction::Mov { d, s }
             | Instruction::Addi { d, s, .. }
             | Instruction::Sign { d, s } => d < 32 && s < 32,
-            Instruction::Load {
-                d: r,
-                b,
-                i,
-                width,
-                ..
-            }
-            | Instruction::Store { s: r, b, i, width } => {
-                r < 32
-                    && b < 32
-                    && place(self.registers[b as usize], i, width.bytes(), memory.len()).is_some()
-            }
+            Instruction::Load { d, b, i, width, .. } => d < 32 && self.reaches(memory, b, i, width),
+            Instruction::Store { s, b, i, width } => s < 32 && self.reaches(memory, b, i, width),
             Instruction::Call => matches!(side, Side::Caller),
             Instruction::Ret => matches!(side, Side::Callee),
             Instruction::Halt => true,
