@@ -1,6 +1,6 @@
 -- The derived `==` of places answers whether they are equal.
-use Rattle.std.proofs.Common.{rules, ◌≡◌, refl, true, false, Bool, Decides, List, ap, sym, subst}
-use Rattle.std.specs.Prelude.{ℕ, ◌==◌, ◌&&◌}
+use Rattle.std.proofs.Common.{rules, ◌≡◌, refl, true, false, Bool, Decides, ap}
+use Rattle.std.specs.Prelude.{◌==◌, ◌&&◌}
 use Rattle.std.specs.Cmp.{unsigned_Decides}
 use denote.Enum.Bare.{same_true, true_same}
 use Rattle.values.specs.contracts.sizes.Size as SizeType

@@ -1,4 +1,4 @@
-use Rattle.std.proofs.Common.{◌≡◌, true, Bool, Decides, ap, ℕ, subst, sym}
+use Rattle.std.proofs.Common.{◌≡◌, Bool, Decides, ap, ℕ, subst, sym}
 use Rattle.std.specs.Prelude.{Ok, Err, Result, ◌==◌}
 use Rattle.std.specs.Cmp.{unsigned_Decides}
 use Rattle.std.specs.Result.{result_eq}
@@ -10,7 +10,6 @@ use Rattle.allocation.specs.Faults.{answer_of, cause_number, placement_fault}
 use Rattle.allocation.specs.contracts.faults.PlacementFaultPartialEq.TheImpl as FaultEq
 use Rattle.allocation.specs.declared.faults.PlacementFault.{PlacementFault}
 use Rattle.histories.proofs.plays.same_answer.Goals as goal
-
 
 fault_decides : (a b : PlacementFault) → Decides (FaultEq.eq-value.it a b) (placement_fault a ≡ placement_fault b)
 fault_decides a b =
