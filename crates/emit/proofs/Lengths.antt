@@ -1,5 +1,5 @@
 -- The length of the code of a call, and the front of the list that it is written to.
-use Rattle.std.proofs.Common.{◌≡◌, ℕ, ◌≤◌, List, [], ◌++◌, map, length, drop, ap, ◌∙◌}
+use Rattle.std.proofs.Common.{◌≡◌, ℕ, ◌≤◌, List, [], ◌++◌, length, drop, ap, ◌∙◌}
 use Rattle.machine.specs.Laws.{called}
 use Rattle.machine.specs.declared.Instruction.{Instruction}
 use Rattle.place.specs.Holdings.{Holding}

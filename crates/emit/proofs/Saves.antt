@@ -1,11 +1,11 @@
 -- The steps of the loops over a body's instructions and over saved registers.
-use Rattle.std.proofs.Common.{◌≡◌, ℕ, suc, ◌+◌, ◌*◌, ◌<◌, ◌≤◌, Bool, true, false, cond, ◌&&◌, ◌||◌, List, [], ◌∷◌, ◌++◌, length, get_or, drop, sym, refl, ap, ◌∙◌, append-nil, add-zero, add-one, arith, length-append}
+use Rattle.std.proofs.Common.{◌≡◌, ℕ, ◌+◌, ◌*◌, ◌<◌, ◌≤◌, true, false, ◌&&◌, ◌||◌, List, [], ◌∷◌, ◌++◌, length, get_or, drop, sym, ap, ◌∙◌, append-nil, add-one, arith, length-append}
 use Rattle.std.proofs.lemmas.List.{at_drop_more}
 use Rattle.machine.specs.declared.Instruction.{Instruction}
 use Rattle.machine.specs.declared.Instruction.TheVariants.{Set}
 use Rattle.place.specs.Registers.{has}
 use Rattle.delivery.specs.Code.{writes, written, saved, saved_below, each_word}
-use Rattle.emit.specs.Emitting.{Code, code_of, emit}
+use Rattle.emit.specs.Emitting.{Code, emit}
 use Rattle.emit.proofs.Emits.{emits_then}
 
 pub written_step : (r : ℕ) (body : List Instruction) (i : ℕ) → i < length body → written r (drop i body) ≡ (writes r (get_or body i (Set 0 0)) || written r (drop (i + 1) body))

@@ -18,7 +18,7 @@ returns g c =
     let homes = home_bytes (length a.held + length r.held) in
     let rounded : f ≡ frame_bytes a.held r.held (saved kept body) = c.frame_bytes-frame.ensures.four_for_each_register_rounded_up_to_eight ∙ (ap (λ (n : ℕ). stack_bytes (n + 4 * c.count_saved.result)) c.home_bytes.ensures.eight_for_each_place ∙ ap (λ (n : ℕ). stack_bytes (homes + 4 * n)) c.count_saved.ensures.their_number) in
     record {
-      its_length = counted (framed_code hs ks kept body f) (callee_code a.held r.held kept body) (same_callee hs a.held ks r.held kept body f e h rounded) _ c.put-callee_length.result c.put-callee_length.ensures.the_whole_code;
+      its_length = counted (framed_code hs ks kept body f) (callee_code a.held r.held kept body) (same_callee hs a.held ks r.held kept body f e h rounded) _ c.put_callee-length.result c.put_callee-length.ensures.the_whole_code;
       its_stack_bytes = rounded;
       at_most_65536 = omega arith;
     }

@@ -1,9 +1,9 @@
-use Rattle.std.proofs.Common.{◌≡◌, ℕ, ◌+◌, ◌*◌, List, [], ◌∷◌, ◌++◌, map, length, refl, ap, ◌∙◌, arith}
+use Rattle.std.proofs.Common.{◌≡◌, ℕ, ◌+◌, ◌*◌, [], ◌∷◌, ◌++◌, map, length, refl, ap, ◌∙◌, arith}
 use Rattle.std.proofs.lemmas.List.{length-map}
 use Rattle.machine.specs.declared.Instruction.TheVariants.{Ret}
 use Rattle.allocation.specs.States.{holding}
 use Rattle.delivery.specs.Code.{saved, save_all, restore_all, copy_all, fill_all, down, up, home_bytes, before_body, after_body}
-use Rattle.emit.specs.Emitting.{Code, code_of, emit}
+use Rattle.emit.specs.Emitting.{code_of, emit}
 use Rattle.emit.proofs.Emits.{emits_then, emits_put}
 use Rattle.emit.proofs.callee.put_callee.Goals as goal
 

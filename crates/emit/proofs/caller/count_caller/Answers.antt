@@ -16,7 +16,7 @@ returns g c =
     let b = c.block_bytes-block.result in
     let rounded = c.block_bytes-block.ensures.reach_rounded_up_to_eight in
     record {
-      its_length = counted (caller_code hs ks b) (caller_code a.held r.held (block_bytes a)) (same_caller hs a.held ks r.held b (block_bytes a) e h rounded) _ c.put-caller_length.result c.put-caller_length.ensures.the_whole_code;
+      its_length = counted (caller_code hs ks b) (caller_code a.held r.held (block_bytes a)) (same_caller hs a.held ks r.held b (block_bytes a) e h rounded) _ c.put_caller-length.result c.put_caller-length.ensures.the_whole_code;
       its_stack_bytes = rounded;
       at_most_65536 = omega arith;
     }

@@ -1,10 +1,9 @@
-use Rattle.std.proofs.Common.{◌≡◌, ℕ, ◌+◌, ◌*◌, List, [], ◌∷◌, ◌++◌, map, length, sym, refl, ap, ◌∙◌}
+use Rattle.std.proofs.Common.{◌≡◌, ℕ, ◌+◌, ◌*◌, [], ◌∷◌, ◌++◌, map, length, sym, refl, ap, ◌∙◌}
 use Rattle.std.proofs.lemmas.List.{length-map}
-use Rattle.machine.specs.declared.Instruction.{Instruction}
 use Rattle.machine.specs.declared.Instruction.TheVariants.{Call, Halt}
 use Rattle.allocation.specs.States.{holding}
 use Rattle.delivery.specs.Code.{fill_all, store_all, down, up, home_bytes}
-use Rattle.emit.specs.Emitting.{Code, code_of, emit}
+use Rattle.emit.specs.Emitting.{code_of, emit}
 use Rattle.emit.proofs.Emits.{emits_then, emits_put}
 use Rattle.emit.proofs.caller.put_caller.Goals as goal
 
