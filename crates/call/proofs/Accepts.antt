@@ -1,10 +1,7 @@
 -- What it says that a call is not refused.
-use Rattle.std.proofs.Common.{◌≡◌, ℕ, List, Some, None, Option, sym, refl, ap, ◌∙◌}
+use Rattle.std.proofs.Common.{◌≡◌, ℕ, Some, None, Option, sym, refl}
 use Rattle.stage.specs.Faults.{Fault}
-use Rattle.allocation.specs.States.{State}
-use Rattle.machine.specs.declared.Instruction.{Instruction}
-use Rattle.delivery.specs.Bodies.{body_fault}
-use Rattle.emit.specs.Coding.{short_fault, or_body, places_fault}
+use Rattle.emit.specs.Coding.{short_fault, or_body}
 use Rattle.call.proofs.Granted.{some_none}
 
 -- code that is long enough, of places that are accepted

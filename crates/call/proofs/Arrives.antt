@@ -1,27 +1,23 @@
 -- A call that is placed on both sides alike, coded and run delivers.
-use Rattle.std.proofs.Common.{◌≡◌, ℕ, ◌+◌, ◌≤◌, List, ◌++◌, length, drop, None, Option, Result, sym, refl, ap, ◌∙◌, subst, arith}
+use Rattle.std.proofs.Common.{◌≡◌, ℕ, ◌+◌, ◌≤◌, List, length, None, Option, Result, sym, ap, ◌∙◌, subst}
 use Rattle.std.specs.List.{AllByRecursion}
 use Rattle.stage.specs.Faults.{Fault}
 use Rattle.place.specs.Holdings.{Holding}
-use Rattle.allocation.specs.States.{State, opened}
-use Rattle.histories.specs.Histories.{placed_all}
+use Rattle.allocation.specs.States.{State}
 use Rattle.histories.proofs.Twins.{twins_all, newly_twins}
 use Rattle.machine.specs.Laws.{Holds}
-use Rattle.machine.specs.Machine.{Contents, Run, reg, running, runs, outcome_of}
+use Rattle.machine.specs.Machine.{Contents, Run, reg, outcome_of}
 use Rattle.machine.specs.declared.Instruction.{Instruction}
-use Rattle.machine.specs.declared.Outcome.TheVariants as Outcomes
-use Rattle.machine.specs.declared.Side.TheVariants.{Caller}
 use Rattle.delivery.specs.Bodies.{body_fault}
 use Rattle.delivery.specs.Code.{home_bytes, saved, frame_bytes, caller_code, callee_code}
-use Rattle.delivery.specs.Delivering.{Sane, Sized, Ready, BodyRuns, Delivers, ended}
+use Rattle.delivery.specs.Delivering.{Sane, Sized, Ready, Delivers}
 use Rattle.delivery.proofs.Running.{run_delivers}
 use Rattle.emit.specs.Coding.{block_bytes, places_fault, caller_fault, callee_fault}
 use Rattle.readiness.proofs.Accepted.{results_few}
 use Rattle.readiness.proofs.Codes.{codes_have_at_most_512_records}
 use Rattle.readiness.proofs.Placed.{held_few}
 use Rattle.readiness.proofs.Readied.{placed_and_coded_is_ready}
-use Rattle.call.specs.Placing.{Sides}
-use Rattle.call.specs.Calls.{World, RunBy, at_front, bench_code, core_code, first_of, memory_fault, coding_fault}
+use Rattle.call.specs.Calls.{World, RunBy, bench_code, core_code, first_of, memory_fault, coding_fault}
 use Rattle.call.specs.Astray.{Setting, Placed, SidesAlike, Provided, Delivered}
 use Rattle.call_faults.specs.declared.CallFault.{CallFault}
 use Rattle.call.specs.declared.ran.Ran.{Ran}

@@ -1,5 +1,5 @@
 -- Nothing goes astray in a call of lawful piles that came out by the rules.
-use Rattle.std.proofs.Common.{◌≡◌, ℕ, ◌+◌, ◌≤◌, length, None, Ok, Result, sym, ap, ◌∙◌, subst}
+use Rattle.std.proofs.Common.{◌≡◌, ℕ, ◌+◌, ◌≤◌, length, None, Ok, sym, ap, ◌∙◌, subst}
 use Rattle.std.proofs.ByRecursion.{All-weaker}
 use Rattle.std.specs.List.{AllByRecursion}
 use Rattle.histories.specs.Histories.{grants_in}
@@ -8,9 +8,8 @@ use Rattle.histories.proofs.Twins.{equal_answers}
 use Rattle.machine.specs.Machine.{Contents}
 use Rattle.delivery.specs.Delivering.{Sane, Sized}
 use Rattle.call.specs.Placing.{Sides, sides_of}
-use Rattle.call.specs.Calls.{first_of, fault_in, coding_fault, CameOut, RunBy, bench_code, core_code}
+use Rattle.call.specs.Calls.{first_of, fault_in, coding_fault, CameOut, RunBy, core_code}
 use Rattle.call.specs.Astray.{Setting, End, Moment, Placed, SidesAlike, Provided, Delivered, NothingGoesAstray, placement_in, moments}
-use Rattle.call_faults.specs.declared.CallFault.{CallFault}
 use Rattle.call.specs.declared.ran.Ran.{Ran}
 use Rattle.call.proofs.Arrives.{codes_are_short, arrives}
 use Rattle.call.proofs.Firsts.{none_first, none_next}

@@ -1,10 +1,10 @@
 -- The steps of placing a list up to the first that is refused.
-use Rattle.std.proofs.Common.{◌≡◌, true, false, cond, List, [], ◌∷◌, is_ok, Some, None, Ok, Err, Option, sym, refl, ap, ◌∙◌}
+use Rattle.std.proofs.Common.{◌≡◌, cond, List, [], ◌∷◌, is_ok, Some, None, Ok, Err, Option, sym, ap, ◌∙◌}
 use Rattle.stage.specs.Books.{Profile}
 use Rattle.stage.specs.Faults.{Fault}
 use Rattle.place.specs.declared.pieces.Place.{Place}
 use Rattle.allocation.specs.Faults.{Answer}
-use Rattle.allocation.specs.States.{State, opened}
+use Rattle.allocation.specs.States.{State}
 use Rattle.histories.specs.Histories.{History, answer_next, placed_next, placed_all, reopened, played}
 use Rattle.histories.specs.declared.asked.Asked.{Asked}
 use Rattle.histories.proofs.Rounds.{profile_stays, rounds_leave_nothing}

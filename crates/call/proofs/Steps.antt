@@ -1,7 +1,6 @@
 -- The allocations of a call: what each was asked, and what it became.
 use Rattle.std.proofs.Common.{◌≡◌, List, [], ◌∷◌, ◌++◌, Some, None, Option, sym, refl, ap, ◌∙◌, subst}
 use Rattle.std.specs.List.{AllByRecursion}
-use Rattle.stage.specs.Books.{Profile}
 use Rattle.stage.specs.Faults.{Fault}
 use Rattle.stage.specs.Lawful.{Lawful}
 use Rattle.allocation.specs.States.{State, opened}
@@ -10,7 +9,7 @@ use Rattle.histories.specs.Laws.{LawfulAllocation}
 use Rattle.histories.specs.declared.asked.Asked.{Asked}
 use Rattle.histories.proofs.After.{lawful_after}
 use Rattle.histories.proofs.Rounds.{rounds_leave_nothing}
-use Rattle.call.specs.Placing.{asked, placed_until, first_refused, placing, Placement, Sides, sides_of}
+use Rattle.call.specs.Placing.{first_refused, placing, Placement, Sides, sides_of}
 use Rattle.call.specs.Astray.{Used, Setting, Moment, Placed, placement_in, after_past, after_call, moments}
 use Rattle.call.proofs.Granted.{some_none, all_asked, placed_holds}
 

@@ -1,5 +1,5 @@
 -- The promise of a call: no argument and no result goes astray, whatever came to either side before.
-use Rattle.std.specs.Prelude.{◌≡◌, ℕ, ◌+◌, ◌≤◌, List, [], ◌∷◌, ◌++◌, length, Ok, Err, Result}
+use Rattle.std.specs.Prelude.{◌≡◌, ℕ, ◌+◌, ◌≤◌, List, [], ◌∷◌, ◌++◌, length, Ok, Result}
 use Rattle.std.specs.List.{AllByRecursion}
 use Rattle.values.specs.Sizes.{bytes}
 use Rattle.place.specs.Holdings.{Holding}

@@ -2,7 +2,6 @@
 use Rattle.std.specs.Prelude.{◌≡◌, ℕ, cond, List, ◌++◌, length, drop, Some, None, Ok, Err, Option, Result, nat_lt}
 use Rattle.stage.specs.Faults.{Fault}
 use Rattle.allocation.specs.Faults.{placement_fault}
-use Rattle.allocation.specs.States.{State}
 use Rattle.machine.specs.Machine.{Contents, running, runs, outcome_of}
 use Rattle.machine.specs.declared.Instruction.{Instruction}
 use Rattle.machine.specs.declared.Side.TheVariants.{Caller}

@@ -1,4 +1,4 @@
-use Rattle.std.proofs.Common.{◌≡◌, length, sym, ap, ◌∙◌, subst}
+use Rattle.std.proofs.Common.{length, ap, ◌∙◌}
 use Rattle.call.specs.Placing.{Sides, placement, sides_of, frozen_sides}
 use Rattle.call.specs.Calls.{first_of, coding_fault}
 use Rattle.call.proofs.Steps.{same_sides}

@@ -1,8 +1,6 @@
-use Rattle.std.proofs.Common.{◌≡◌, Option, sym, refl, ap, ◌∙◌, subst}
-use Rattle.stage.specs.Faults.{Fault}
+use Rattle.std.proofs.Common.{sym, refl, ap, subst}
 use Rattle.allocation.specs.Faults.{placement_fault}
-use Rattle.allocation.specs.States.{state}
-use Rattle.call.specs.Placing.{placing_fault, placement, ComesOf}
+use Rattle.call.specs.Placing.{placing_fault, ComesOf}
 use Rattle.call.proofs.Places.{stops_at_first, stops_at_second, stops_at_third, goes_to_the_last}
 use Rattle.call.proofs.Turned.{turned}
 use Rattle.call.proofs.placing.place_all.Goals as goal

@@ -1,4 +1,4 @@
-use Rattle.std.proofs.Common.{[], drop, sym, subst}
+use Rattle.std.proofs.Common.{sym, subst}
 use Rattle.std.proofs.lemmas.List.{drop_more, drop_all}
 use Rattle.std.specs.List.{AllByRecursion}
 use Rattle.machine.specs.declared.Instruction.TheVariants.{Set}

@@ -1,6 +1,4 @@
-use Rattle.std.proofs.Common.{◌≡◌, ap, ◌∙◌}
-use Rattle.allocation.specs.States.{state}
-use Rattle.emit.specs.Coding.{caller_fault, callee_fault}
+use Rattle.std.proofs.Common.{ap, ◌∙◌}
 use Rattle.call.specs.Calls.{fault_in, first_of, memory_fault}
 use Rattle.call_faults.specs.declared.CallFault.TheVariants.{Code}
 use Rattle.call.proofs.Firsts.{next_decides, memory_too_large, memory_fits}
@@ -16,16 +14,16 @@ returns-in_err-callee_size g c =
           ∙ next_decides _ _ _ c.in_ok-caller_size.ensures.lowest_number_first (ap (λ o. first_of o (memory_fault c.args.room.memory)) c.in_err-callee_size.ensures.lowest_number_first);
     }
 
-pub returns-then-room-gt-MEMORY-LIMIT : goal.returns-then-room-gt-MEMORY-LIMIT
-returns-then-room-gt-MEMORY-LIMIT g c =
+pub returns-then-room-gt-MEMORY_LIMIT : goal.returns-then-room-gt-MEMORY_LIMIT
+returns-then-room-gt-MEMORY_LIMIT g c =
     record {
       first_fault_of_caller_callee_or_memory =
-          next_decides _ _ _ c.in_ok-caller_size.ensures.lowest_number_first (next_decides _ _ _ c.in_ok-callee_size.ensures.lowest_number_first (memory_too_large c.args.room.memory c.if-room-gt-MEMORY-LIMIT.true));
+          next_decides _ _ _ c.in_ok-caller_size.ensures.lowest_number_first (next_decides _ _ _ c.in_ok-callee_size.ensures.lowest_number_first (memory_too_large c.args.room.memory c.if-room-gt-MEMORY_LIMIT.true));
     }
 
 pub returns : goal.returns
 returns g c =
     record {
       first_fault_of_caller_callee_or_memory =
-          next_decides _ _ _ c.in_ok-caller_size.ensures.lowest_number_first (next_decides _ _ _ c.in_ok-callee_size.ensures.lowest_number_first (memory_fits c.args.room.memory c.if-room-gt-MEMORY-LIMIT.false));
+          next_decides _ _ _ c.in_ok-caller_size.ensures.lowest_number_first (next_decides _ _ _ c.in_ok-callee_size.ensures.lowest_number_first (memory_fits c.args.room.memory c.if-room-gt-MEMORY_LIMIT.false));
     }
