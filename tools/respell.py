@@ -10,6 +10,7 @@ from pathlib import Path
 
 # Definitions, fields and lemmas: a small first letter makes snake case of them, a capital one camel case.
 PLAIN = """
+    letter-written
     Call-delivers Codes-have-at-most-512-records Eight-given Equal-requests-get-equal-answers Follow-one-another
     Four-given Gives-registers-in-order Placed-and-coded-is-ready Run-delivers
     Starts-at-multiples-of-the-alignment a-budget-of-512-covers-both-codes a-call-that-is-not-refused-is-placed

@@ -62,8 +62,8 @@ bits_here xs n r p e =
     let larger = larger_of Four r.alignment in
     let exact = (rounded larger n).multiple in
     let by_four : c % 4 ≡ 0 = divides larger Four c (four_grown r.alignment) exact in
-    let by-own : c % bytes r.alignment ≡ 0 = divides larger r.alignment c (grown Four r.alignment) exact in
-    let multiple : 4 * (c / 4) % bytes r.alignment ≡ 0 = ap (λ k. k % bytes r.alignment) (whole c by_four) ∙ by-own in
+    let by_own : c % bytes r.alignment ≡ 0 = divides larger r.alignment c (grown Four r.alignment) exact in
+    let multiple : 4 * (c / 4) % bytes r.alignment ≡ 0 = ap (λ k. k % bytes r.alignment) (whole c by_four) ∙ by_own in
     elim (bits_cases xs n c r.width) [
       | inl k ↦ none_given _ (bits_does xs n r) n p k e
       | inr t ↦ elim t [

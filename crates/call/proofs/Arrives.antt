@@ -11,7 +11,7 @@ use Rattle.machine.specs.declared.Instruction.{Instruction}
 use Rattle.delivery.specs.Bodies.{body_fault}
 use Rattle.delivery.specs.Code.{home_bytes, saved, frame_bytes, caller_code, callee_code}
 use Rattle.delivery.specs.Delivering.{Sane, Sized, Ready, Delivers}
-use Rattle.delivery.proofs.Running.{run_delivers}
+use Rattle.delivery.proofs.Running.{run_delivers_through_the_body}
 use Rattle.emit.specs.Coding.{block_bytes, places_fault, caller_fault, callee_fault}
 use Rattle.readiness.proofs.Accepted.{results_few}
 use Rattle.readiness.proofs.Codes.{codes_have_at_most_512_records}
@@ -90,10 +90,10 @@ module _ (s : Setting) (none : None ≡ coding_fault (whole_sides s) s.kept s.bo
     ready : Ready a.held b.held s.kept s.body (block_bytes a) x
     ready =
         let counted = held_as_many s.arguments a.held held.bench_holds_each_argument in
-        let counted-too = held_as_many s.results b.held held.bench_holds_each_result in
+        let counted_too = held_as_many s.results b.held held.bench_holds_each_result in
         let body : body_fault (home_bytes (length a.held + length b.held)) s.body 0 ≡ None = ap (λ (z : List Holding). body_fault (home_bytes (length z + length b.held)) s.body 0) same_arguments ∙ (ap (λ (z : List Holding). body_fault (home_bytes (length c.held + length z)) s.body 0) same_results ∙ body_passes) in
         let deep : block_bytes a + frame_bytes a.held b.held (saved s.kept s.body) ≤ reg x 31 = subst (λ (n : ℕ). n ≤ reg x 31) (ap (λ (n : ℕ). n + r.frame) ran.stack_bytes_of_the_caller ∙ ap (λ (n : ℕ). block_bytes a + n) frame) given.stack_is_deep_enough in
-        let homes : reg x 31 + home_bytes (length a.held + length b.held) ≤ length x.mem = subst (λ (n : ℕ). reg x 31 + home_bytes n ≤ length x.mem) (ap (λ (n : ℕ). n + length s.results) (sym counted) ∙ ap (λ (n : ℕ). length a.held + n) (sym counted-too)) given.homes_are_within_memory in
+        let homes : reg x 31 + home_bytes (length a.held + length b.held) ≤ length x.mem = subst (λ (n : ℕ). reg x 31 + home_bytes n ≤ length x.mem) (ap (λ (n : ℕ). n + length s.results) (sym counted) ∙ ap (λ (n : ℕ). length a.held + n) (sym counted_too)) given.homes_are_within_memory in
         placed_and_coded_is_ready s.bench_arguments.profile s.bench_results.profile s.arguments s.results s.kept s.body x l.bench_arguments l.bench_results bench_passes body sized sane deep homes
 
     total : length (caller_code a.held b.held (block_bytes a)) + length callee ≡ r.caller_length + r.callee_length
@@ -102,9 +102,9 @@ module _ (s : Setting) (none : None ≡ coding_fault (whole_sides s) s.kept s.bo
     pub arrives : (answer : Result Ran CallFault) → (p q : Contents) × Delivered s (record { sides = whole_sides s; world = new; answer = answer }) r p q
     arrives answer =
         let holds : Holds new.caller 0 (bench_code (whole_sides s)) = subst (λ (z : List Instruction). Holds z 0 (bench_code (whole_sides s))) (sym ran.caller_code_is_at_the_front_and_the_rest_untouched) (holds_front (bench_code (whole_sides s)) _) in
-        let holds-too : Holds new.callee 0 callee = subst (λ (z : List Instruction). Holds new.callee 0 z) same_code (subst (λ (z : List Instruction). Holds z 0 (core_code (whole_sides s) s.kept s.body)) (sym ran.callee_code_is_at_the_front_and_the_rest_untouched) (holds_front (core_code (whole_sides s) s.kept s.body) _)) in
+        let holds_too : Holds new.callee 0 callee = subst (λ (z : List Instruction). Holds new.callee 0 z) same_code (subst (λ (z : List Instruction). Holds z 0 (core_code (whole_sides s) s.kept s.body)) (sym ran.callee_code_is_at_the_front_and_the_rest_untouched) (holds_front (core_code (whole_sides s) s.kept s.body) _)) in
         let enough = subst (λ (n : ℕ). n ≤ s.budget) (sym total) given.budget_covers_both_codes in
-        let got = run_delivers a.held b.held s.kept s.body (block_bytes a) x ready new.caller new.callee holds holds-too s.budget enough in
+        let got = run_delivers_through_the_body a.held b.held s.kept s.body (block_bytes a) x ready new.caller new.callee holds holds_too s.budget enough in
         let run = got.3 in
         let last = ran.contents_are_those_at_the_end ∙ ap (λ (z : Run). z.last.contents) run in (
           got.0,

@@ -17,7 +17,7 @@ use Rattle.place.specs.declared.pieces.Place.TheVariants.{Single, Double}
 use Rattle.values.specs.declared.kinds.Kind.{Kind}
 use Rattle.values.specs.declared.sizes.Size.{Size}
 use Rattle.delivery.specs.Code.{home_size, settle, fill_pieces, each_home, fill_place, fill_all, saved, frame_bytes, before_call, after_call, before_body, after_body, caller_code, callee_code}
-use Rattle.delivery.specs.Delivering.{Reaches, BodyRuns, RunDelivers}
+use Rattle.delivery.specs.Delivering.{Reaches, BodyRuns, RunDelivers, RunDeliversThroughTheBody}
 use Rattle.delivery.proofs.Deliveries.{call_delivers}
 use Rattle.delivery.proofs.Leading.{effects_append}
 
@@ -83,8 +83,8 @@ goes_through a b before after inner body rest x x₁ p q h g small e₁ e₂ e�
       run_leaves_the_body = subst (λ (k : ℕ). Reaches a b (running Caller 0 x) k (length inner + length body) q) far (subst (λ (k : ℕ). Reaches a b (running Caller 0 x) (steps_to before (inner ++ body)) k q) long (comes_to a b before after (inner ++ body) rest x x₁ q h whole small e₁ through));
     }
 
-pub run_delivers : RunDelivers
-run_delivers args results kept body b x ready caller callee holds holds' budget enough =
+pub run_delivers_through_the_body : RunDeliversThroughTheBody
+run_delivers_through_the_body args results kept body b x ready caller callee holds holds' budget enough =
     let rs : List ℕ = saved kept body in
     let f : ℕ = frame_bytes args results rs in
     let link : ℕ = length (before_call args b) + 1 in
@@ -106,3 +106,8 @@ run_delivers args results kept body b x ready caller callee holds holds' budget 
       goes_through caller callee (before_call args b) (after_call args results b) (before_body args results rs f) body (after_body args results rs f ++ (Ret ∷ [])) x got.0 p q holds (subst (Holds callee 0) (append_assoc (before_body args results rs f) (body ++ after_body args results rs f) (Ret ∷ []) ∙ ap (λ (l : List Instruction). before_body args results rs f ++ l) (append_assoc body (after_body args results rs f) (Ret ∷ []))) holds') small got.5 got.6 got.10.body_runs_through,
       got.10,
     )
+
+pub run_delivers : RunDelivers
+run_delivers args results kept body b x ready caller callee holds holds' budget enough =
+    let run = run_delivers_through_the_body args results kept body b x ready caller callee holds holds' budget enough in
+    (run.0, run.1, run.2, run.3, run.5)

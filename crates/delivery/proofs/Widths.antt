@@ -1,5 +1,5 @@
 -- Loaded values, byte by byte.
-use Rattle.std.proofs.Common.{◌≡◌, ℕ, zero, suc, ◌+◌, ◌-◌, ◌%◌, ◌^◌, ◌<◌, ◌≤◌, Bool, true, false, cond, ltb, List, get_or, refl, ap, ◌∙◌, inl, inr, add_assoc, arith}
+use Rattle.std.proofs.Common.{◌≡◌, ℕ, zero, suc, ◌+◌, ◌-◌, ◌%◌, ◌^◌, ◌<◌, ◌≤◌, Bool, true, false, cond, ltb, List, get_or, ap, ◌∙◌, inl, inr, add_assoc, arith}
 use native.Mathlib.Nat.{zero-div}
 use Rattle.std.proofs.lemmas.Bool.{cases_lt, lt-ltb, le-ltb}
 use Rattle.std.proofs.lemmas.Bool.Decides.{nat_tests}
@@ -81,13 +81,6 @@ loaded_byte Unsigned w m a i s h = plain_loaded w m a i s h
 loaded_byte Signed w m a i s h = signed_loaded w m a i s h
 loaded_byte Float w m a i s h = plain_loaded w m a i s h
 loaded_byte Address w m a i s h = plain_loaded w m a i s h
-
--- a whole word is the same by its sign and with zeros
-pub whole_loaded : (t : Kind) (m : List ℕ) (a : ℕ) → loaded m a Widths.Four (by_sign t) ≡ word m a 4
-whole_loaded Unsigned m a = refl
-whole_loaded Signed m a = signed_whole (word m a 4)
-whole_loaded Float m a = refl
-whole_loaded Address m a = refl
 
 -- what goes on behind a low piece
 abbrev pub upper : Kind → ℕ → ℕ

@@ -128,9 +128,19 @@ pub record BodyRuns (caller callee : List Instruction) (s : State) (body : List 
 abbrev pub ended : Contents → ℕ → Run
 ended y n = record { last = record { contents = y; mode = Ended }; steps = n }
 
--- a call that is ready, in lists that hold its code, with a budget of a step for each instruction: the run ends after so many steps, goes through the body, and delivers
+-- a call that is ready, in lists that hold its code, with a budget of a step for each instruction: the run ends after so many steps, and delivers
 abbrev pub RunDelivers : Type 0
 RunDelivers =
+    (args results : List Holding) (kept : ℕ) (body : List Instruction) (b : ℕ) (x : Contents) → Ready args results kept body b x →
+    (caller callee : List Instruction) → Holds caller 0 (caller_code args results b) → Holds callee 0 (callee_code args results kept body) →
+    (budget : ℕ) → length (caller_code args results b) + length (callee_code args results kept body) ≤ budget →
+    (p q y : Contents)
+    × (runs caller callee budget (running Caller 0 x) ≡ ended y (length (caller_code args results b) + length (callee_code args results kept body)))
+    × Delivers args results kept body b x p q y
+
+-- the same, and the run goes through the body
+abbrev pub RunDeliversThroughTheBody : Type 0
+RunDeliversThroughTheBody =
     (args results : List Holding) (kept : ℕ) (body : List Instruction) (b : ℕ) (x : Contents) → Ready args results kept body b x →
     (caller callee : List Instruction) → Holds caller 0 (caller_code args results b) → Holds callee 0 (callee_code args results kept body) →
     (budget : ℕ) → length (caller_code args results b) + length (callee_code args results kept body) ≤ budget →

@@ -75,7 +75,7 @@ pub(crate) fn fill_high(value: ValueType, d: u8, s: u8, home: u32) -> Instructio
             b: STACK_POINTER,
             i: offset(home + 4),
             width: Width::Four,
-            signed: by_sign(value.kind),
+            signed: false,
         },
         (_, Kind::Signed) => Instruction::Sign { d, s },
         _ => Instruction::Set { d, n: 0 },

@@ -9,7 +9,7 @@ use Rattle.stage.specs.Books.{Profile, used}
 use Rattle.stage.specs.Lawful.{Aligned}
 use Rattle.allocation.specs.States.{State, opened, always_placed}
 use Rattle.allocation.specs.Rules.{place_answer}
-use Rattle.histories.specs.Histories.{History, Grant, placed_all, answers, played_rounds, reopened, grants_in, as_held}
+use Rattle.histories.specs.Histories.{History, Grant, placed_all, answers, played_rounds, reopened, grants, grants_in, as_held}
 use Rattle.histories.specs.declared.asked.Asked.{Asked}
 
 -- no two of the places share a byte
@@ -44,11 +44,13 @@ PlacesAlways p h = (before later : List Asked) → before ++ later ≡ h.since �
 
 -- an allocation s of a pile with profile p that was opened and went through a history h
 pub record LawfulAllocation (p : Profile) (h : History) (s : State) : Type 0 where
-  pub held_places_are_those_granted_since : HoldsWhatWasGranted p h s
-  pub held_places_share_no_byte : HoldsPlacesApart s
-  pub held_places_are_as_wide_as_requested_or_wider : AllByRecursion WideEnough (grants_in p h)
-  pub held_places_are_aligned_in_the_block : AllByRecursion AlignedAsRequested (grants_in p h)
-  pub a_type_always_placed_is_refused_only_past_4088_or_at_sixteen : PlacesAlways p h
+  pub held_places_are_those_granted_since : s.held ≡ map as_held (grants (reopened p h) h.since)
+  pub held_places_share_no_byte : EachApart (map (λ x. x.place) s.held)
+  pub held_places_are_as_wide_as_requested_or_wider : AllByRecursion WideEnough (grants (reopened p h) h.since)
+  pub held_places_are_aligned_in_the_block : AllByRecursion AlignedAsRequested (grants (reopened p h) h.since)
+  -- at every moment since, and next after the history
+  pub a_type_always_placed_is_refused_only_past_4088_or_at_sixteen : (before later : List Asked) → before ++ later ≡ h.since →
+      (t : ValueType) → always_placed p.questions t ≡ true → RefusedOnlyWhenFull (placed_all (reopened p h) before) t
 
 -- piles with equal first books and equal answers to questions
 pub record Alike (p q : Profile) : Type 0 where

@@ -1,11 +1,7 @@
-// Places signatures by built-in piles and prints where each value goes, on two sides with unlike pasts too; then makes a
-// call from one side to the other.
+// Places signatures by built-in piles and prints where each value goes, on two sides with unlike pasts too; then runs a
+// small call on the machine.
 #![tactic(auto)]
 
-mod crossing;
-mod shown;
-
-use crate::crossing::show_crossing;
 use adjust::Adjust;
 use allocation::opened::Open;
 use anyhow::anyhow;
@@ -15,6 +11,7 @@ use blocks::up::Up;
 use conditions::Test;
 use histories::asked::Asked;
 use histories::plays::play;
+use machine::{Instruction, Machine, Outcome, Width};
 use place::pieces::Place;
 use shut::Shut;
 use sides::choose::Choose;
@@ -106,6 +103,61 @@ fn show_sides(rt: &HostRuntime) -> anyhow::Result<()> {
     show_side(rt, "core after two other rounds", core)
 }
 
+fn show_registers(rt: &HostRuntime, registers: &[u32; 32]) -> anyhow::Result<()> {
+    for (r, value) in registers.iter().enumerate() {
+        if *value != 0 {
+            let value = *value;
+            print!(rt; "; r{r} {value}")?;
+        }
+    }
+    Ok(())
+}
+
+fn show_bytes(rt: &HostRuntime, memory: &[u8]) -> anyhow::Result<()> {
+    for (a, byte) in memory.iter().enumerate() {
+        if *byte != 0 {
+            let byte = *byte;
+            print!(rt; "; byte {a} {byte}")?;
+        }
+    }
+    Ok(())
+}
+
+// A call on a machine that is all zero: -5 and 47 are added, and the caller stores the sum.
+fn show_call(rt: &HostRuntime) -> anyhow::Result<()> {
+    let caller = [
+        Instruction::Set { d: 31, n: 64 },
+        Instruction::Set {
+            d: 0,
+            n: 0xFFFF_FFFB,
+        },
+        Instruction::Call,
+        Instruction::Store {
+            s: 0,
+            b: 31,
+            i: -8,
+            width: Width::Four,
+        },
+        Instruction::Halt,
+    ];
+    let callee = [Instruction::Addi { d: 0, s: 0, i: 47 }, Instruction::Ret];
+    let mut memory = [0; 128];
+    let mut machine = Machine::new([0; 32]);
+    let Ok((outcome, steps)) = machine.run(&mut memory, &caller, &callee, 100) else {
+        return Err(anyhow!("the memory is too large"));
+    };
+    let word = match outcome {
+        Outcome::Ended => "ended",
+        Outcome::Stuck => "stuck",
+        Outcome::Spent => "spent",
+    };
+    print!(rt; "call: {word} after {steps} steps")?;
+    show_registers(rt, &machine.registers)?;
+    show_bytes(rt, &memory)?;
+    println!(rt; "")?;
+    Ok(())
+}
+
 fn run(rt: &HostRuntime) -> anyhow::Result<()> {
     show(rt, wide()?, "u1 s8 u2")?;
     show(rt, wide()?, "f8 f8 u1 s8")?;
@@ -118,7 +170,7 @@ fn run(rt: &HostRuntime) -> anyhow::Result<()> {
     show(rt, Count::new(&[0, 1])?, "u8 u4")?;
     show(rt, floats_apart()?, "f4 u1 u2 f4 f4 a4")?;
     show_sides(rt)?;
-    show_crossing(rt)
+    show_call(rt)
 }
 
 fn main(rt: HostRuntime) -> anyhow::Result<()> {

@@ -53,12 +53,12 @@ type_of_word None k s w long l d h = λ t e.
     h (rw (← i, ← j) t.one_of_the_eleven)
 type_of_word (Some t) k s w long l d h = rw (two_long w long, ← l, ← d, h.0, h.1)
 
-letter-written : (k : Kind) → encode (letter_of k) ≡ letter_of k ∷ []
+letter_written : (k : Kind) → encode (letter_of k) ≡ letter_of k ∷ []
 unfolding encode
-letter-written Unsigned = refl
-letter-written Signed = refl
-letter-written Float = refl
-letter-written Address = refl
+letter_written Unsigned = refl
+letter_written Signed = refl
+letter_written Float = refl
+letter_written Address = refl
 
 pub below_ten : (s : Size) → bytes s < 10
 below_ten One = omega arith
@@ -67,4 +67,4 @@ below_ten Four = omega arith
 below_ten Eight = omega arith
 
 pub word_written : (t : ValueType) → encode (letter_of t.kind) ++ decimal (bytes t.width) ≡ word_of t
-word_written t = rw (letter-written t.kind, decimal_digit (bytes t.width) (below_ten t.width))
+word_written t = rw (letter_written t.kind, decimal_digit (bytes t.width) (below_ten t.width))

@@ -31,7 +31,7 @@ returns c =
     let copies = copy_all f args 0 in
     let fills = fill_all results (home_bytes (length args)) in
     let loads = restore_all rs (home_bytes (length args + length results)) in
-    let saved-words : c2 ≡ emit c1 saves = c.save_all-at.ensures.stores_each_saved_register ∙ ap (λ (h : ℕ). emit c1 (save_all rs h)) words in
+    let saved_words : c2 ≡ emit c1 saves = c.save_all-at.ensures.stores_each_saved_register ∙ ap (λ (h : ℕ). emit c1 (save_all rs h)) words in
     let filled : c5 ≡ emit c4 fills = c.fill_all-at.ensures.fills_every_place ∙ ap (λ (h : ℕ). emit c4 (fill_all results h)) homes in
     let loaded : c6 ≡ emit c5 loads = c.restore_all-at.ensures.loads_each_saved_register ∙ ap (λ (h : ℕ). emit c5 (restore_all rs h)) words in
     let before = before_body args results rs f in
@@ -41,7 +41,7 @@ returns c =
           emits_then (before ++ (body ++ after)) (Ret ∷ []) c0 c7 c8
           (emits_then before (body ++ after) c0 c3 c7
           (emits_put (down f) _ (saves ++ copies) c0 c1 c3 c.stack_down.ensures.takes_the_bytes c.put-at.ensures.one_record_more
-          (emits_then saves copies c1 c2 c3 saved-words c.copy_all-at.ensures.copies_every_place))
+          (emits_then saves copies c1 c2 c3 saved_words c.copy_all-at.ensures.copies_every_place))
           (emits_then body after c3 c4 c7 c.put_body-at.ensures.copies_the_body
           (emits_then fills (loads ++ (up f ∷ [])) c4 c5 c7 filled
           (emits_then loads (up f ∷ []) c5 c6 c7 loaded
