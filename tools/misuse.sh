@@ -6,9 +6,7 @@ set -eu
 root=$(cd "$(dirname "$0")/.." && pwd)
 scratch=$(mktemp -d)
 trap 'rm -rf "$scratch"' EXIT
-cp -r "$root/crates" "$root/crates.txt" "$scratch"
-# What is proved already is taken over, so that only the misuse is checked.
-if [ -d "$root/target" ]; then cp -r "$root/target" "$scratch"; fi
+tar -C "$root" --exclude=out -cf - crates crates.txt | tar -C "$scratch" -xf -
 echo 'misuse: values place stage allocation machine delivery emit' >> "$scratch/crates.txt"
 mkdir -p "$scratch/crates/misuse/src"
 failed=0
@@ -16,6 +14,7 @@ failed=0
 # Checks a function with the body on the input, after an allocation was opened.
 check() {
     {
+        echo '#![tactic(auto)]'
         echo 'use allocation::frozen::Frozen;'
         echo 'use allocation::opened::Open;'
         echo 'use emit::caller::caller_code;'
@@ -27,7 +26,7 @@ check() {
         cat
         echo '}'
     } > "$scratch/crates/misuse/src/lib.rt"
-    (cd "$scratch" && rt dev misuse) > "$scratch/log" 2>&1
+    (cd "$scratch/crates/misuse" && rt check) > "$scratch/log" 2>&1
 }
 
 report() {
