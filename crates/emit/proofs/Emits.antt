@@ -28,18 +28,21 @@ emits_put x y ys c d e i p q = emits_then (x ∷ []) ys c d e (p ∙ ap (λ (z :
 pub emits_last : (xs : List Instruction) (c d : Code) → d ≡ emit c xs → d ≡ emit c (xs ++ [])
 emits_last xs c d e = e ∙ ap (emit c) (sym (append-nil xs))
 
+-- a turn of a loop over places and their homes
+pub homes_more : (g : Holding → ℕ → List Instruction) (c d : Code) (hs : List Held) (i home : ℕ) (x : Held) → i < length hs → x ≡ get_or hs i x → d ≡ emit c (g (holding x) home) → emit d (each_home g (map holding (drop (i + 1) hs)) (home + 8)) ≡ emit c (each_home g (map holding (drop i hs)) home)
+homes_more g c d hs i home x h e p =
+    let rest : List Instruction = each_home g (map holding (drop (i + 1) hs)) (home + 8) in
+    let first : drop i hs ≡ x ∷ drop (i + 1) hs = drop_more hs i x h ∙ ap (λ (y : Held). y ∷ drop (i + 1) hs) (sym e) in
+    ap (λ (y : Code). emit y rest) p ∙ (sym (emit_append (g (holding x) home) rest c) ∙ ap (λ (l : List Held). emit c (each_home g (map holding l) home)) (sym first))
+
 -- in a loop over places and their homes, after i of them: what is left to write, written from here, gives the whole
 abbrev pub Homes : (Holding → ℕ → List Instruction) → List Held → Code → ℕ → Code → ℕ → ℕ → Type 0
 Homes g hs b h c home i =
     (emit c (each_home g (map holding (drop i hs)) home) ≡ emit b (each_home g (map holding hs) h)) × (home ≡ h + 8 * i) × (c.at ≤ b.at + 4 * i)
 
 module _ (g : Holding → ℕ → List Instruction) (hs : List Held) (b : Code) (h : ℕ) (c : Code) (home i : ℕ) (inv : Homes g hs b h c home i) where
-  pub homes_more : (d : Code) (x : Held) → i < length hs → x ≡ get_or hs i x → d ≡ emit c (g (holding x) home) → d.at ≤ c.at + 4 → Homes g hs b h d (home + 8) (i + 1)
-  homes_more d x l e p few =
-      let rest : List Instruction = each_home g (map holding (drop (i + 1) hs)) (home + 8) in
-      let first : drop i hs ≡ x ∷ drop (i + 1) hs = drop_more hs i x l ∙ ap (λ (y : Held). y ∷ drop (i + 1) hs) (sym e) in
-      let step : emit d rest ≡ emit c (each_home g (map holding (drop i hs)) home) = ap (λ (y : Code). emit y rest) p ∙ (sym (emit_append (g (holding x) home) rest c) ∙ ap (λ (l : List Held). emit c (each_home g (map holding l) home)) (sym first)) in
-      (step ∙ inv.0, omega (arith, inv.1), omega (arith, inv.2, few))
+  pub homes_kept : (d : Code) (x : Held) → i < length hs → x ≡ get_or hs i x → d ≡ emit c (g (holding x) home) → d.at ≤ c.at + 4 → Homes g hs b h d (home + 8) (i + 1)
+  homes_kept d x l e p few = (homes_more g c d hs i home x l e p ∙ inv.0, omega (arith, inv.1), omega (arith, inv.2, few))
 
   pub homes_all : length hs ≤ i → c ≡ emit b (each_home g (map holding hs) h)
   homes_all l = sym (at_drop_all (λ l. emit c (each_home g (map holding l) home)) hs i l) ∙ inv.0

@@ -27,6 +27,13 @@ pub words_more : (g : ℕ → ℕ → Instruction) (xs : List ℕ) (r h : ℕ) �
 words_more g [] r h = ap (λ (k : ℕ). g r k ∷ []) (omega arith)
 words_more g (x ∷ xs) r h = ap (λ (l : List Instruction). g x h ∷ l) (words_more g xs r (h + 4) ∙ ap (λ (k : ℕ). each_word g xs (h + 4) ++ (g r k ∷ [])) (omega arith))
 
+-- a turn of a loop that writes an instruction for a saved register
+pub word_written : (g : ℕ → ℕ → Instruction) (kept : ℕ) (body : List Instruction) (r h home : ℕ) (b c d : Code) (x : Instruction) → (has kept r && written r body) ≡ true → home ≡ h + 4 * length (saved_below r kept body) → c ≡ emit b (each_word g (saved_below r kept body) h) → x ≡ g r home → d ≡ emit c (x ∷ []) → d ≡ emit b (each_word g (saved_below (r + 1) kept body) h)
+word_written g kept body r h home b c d x t e p i q =
+    let xs : List ℕ = saved_below r kept body in
+    let last : d ≡ emit c (g r (h + 4 * length xs) ∷ []) = q ∙ (ap (λ (y : Instruction). emit c (y ∷ [])) i ∙ ap (λ (k : ℕ). emit c (g r k ∷ [])) e) in
+    emits_then (each_word g xs h) (g r (h + 4 * length xs) ∷ []) b c d p last ∙ ap (emit b) (sym (words_more g xs r h) ∙ ap (λ (l : List ℕ). each_word g l h) (sym (saved_more kept body r t)))
+
 pub saved_all : (kept : ℕ) (body : List Instruction) (r : ℕ) → r ≡ 28 → saved_below r kept body ≡ saved kept body
 unfolding saved
 saved_all kept body r e = ap (λ (k : ℕ). saved_below k kept body) e
@@ -40,14 +47,11 @@ Words g kept body b h c home r =
     × (length (saved_below r kept body) ≤ r)
 
 module _ (g : ℕ → ℕ → Instruction) (kept : ℕ) (body : List Instruction) (b : Code) (h : ℕ) (c : Code) (home r : ℕ) (inv : Words g kept body b h c home r) where
-  pub word_written : (d : Code) (x : Instruction) (e : Code) (next : ℕ) → (has kept r && written r body) ≡ true → x ≡ g r home → d ≡ emit c (x ∷ []) → e ≡ d → next ≡ home + 4 → Words g kept body b h e next (r + 1)
-  word_written d x e next t i q same step =
-      let xs : List ℕ = saved_below r kept body in
-      let word : Instruction = g r (h + 4 * length xs) in
-      let last : d ≡ emit c (word ∷ []) = q ∙ (ap (λ (y : Instruction). emit c (y ∷ [])) i ∙ ap (λ (k : ℕ). emit c (g r k ∷ [])) inv.1) in
-      let whole : d ≡ emit b (each_word g (saved_below (r + 1) kept body) h) = emits_then (each_word g xs h) (word ∷ []) b c d inv.0 last ∙ ap (emit b) (sym (words_more g xs r h) ∙ ap (λ (l : List ℕ). each_word g l h) (sym (saved_more kept body r t))) in
+  pub one_written : (d : Code) (x : Instruction) (e : Code) (next : ℕ) → (has kept r && written r body) ≡ true → x ≡ g r home → d ≡ emit c (x ∷ []) → e ≡ d → next ≡ home + 4 → Words g kept body b h e next (r + 1)
+  one_written d x e next t i q same step =
+      let whole : d ≡ emit b (each_word g (saved_below (r + 1) kept body) h) = word_written g kept body r h home b c d x t inv.1 inv.0 i q in
       let more = length_saved_more kept body r t in
-      let end : e.at ≡ c.at + 1 = ap (λ (y : Code). y.at) (same ∙ last) in
+      let end : e.at ≡ c.at + 1 = ap (λ (y : Code). y.at) (same ∙ q) in
       (same ∙ whole, omega (arith, step, more, inv.1), omega (arith, end, inv.2), omega (arith, more, inv.3))
 
   pub none_written : (e : Code) (next : ℕ) → (has kept r && written r body) ≡ false → e ≡ c → next ≡ home → Words g kept body b h e next (r + 1)
