@@ -2,7 +2,7 @@
 #![tactic(auto)]
 
 ghost use Rattle.std.specs.Prelude.{◌≡◌, IfOk};
-ghost use Rattle.stage.specs.Books.{Cleared};
+ghost use Rattle.stage.specs.Clearing.{IsClearedOf};
 ghost use Rattle.stage.specs.Faults.{fault_of, width_fault};
 ghost use Rattle.values.specs.Sizes.{bytes};
 ghost use Rattle.adjust.specs.Adjusting.{changed, map_book, map_blame, map_profile};
@@ -16,7 +16,7 @@ use values::requests::Request;
 use values::sizes::Size;
 
 // What of a request is raised, and to what at least.
-#[derive(Clone, Copy)]
+#[derive(Clone, Copy, PartialEq, Eq, Debug)]
 pub enum Change {
     Width(Size),
     Alignment(Size),
@@ -44,24 +44,26 @@ impl<S: Stage + Drop> Adjust<S> {
     pub fn widen(m: u8, below: S) -> Result<Adjust<S>, ParameterFault>
         ensures refused_unless_2_4_or_8 { fault_of result ≡ width_fault m }
         ensures raises_the_width_to_m { IfOk result (λ s. (size : Size) × (s.change ≡ Width size) × (bytes size ≡ m)) }
-        ensures stage_below_is_cleared { IfOk result (λ s. Cleared (S.Stage.book s.below) (S.Stage.blame s.below) (S.Stage.profile s.below) (S.Stage.profile below)) }
+        ensures stage_below_is_cleared { IfOk result (λ s. IsClearedOf S.Stage s.below below) }
     {
         let change = Change::Width(raised_size(m)?);
-        let mut below = below;
-        below.clear();
-        Ok(Adjust { change, below })
+        Ok(Adjust {
+            change,
+            below: below.cleared(),
+        })
     }
 
     // Raises a smaller alignment to m.
     pub fn raise(m: u8, below: S) -> Result<Adjust<S>, ParameterFault>
         ensures refused_unless_2_4_or_8 { fault_of result ≡ width_fault m }
         ensures raises_the_alignment_to_m { IfOk result (λ s. (size : Size) × (s.change ≡ Alignment size) × (bytes size ≡ m)) }
-        ensures stage_below_is_cleared { IfOk result (λ s. Cleared (S.Stage.book s.below) (S.Stage.blame s.below) (S.Stage.profile s.below) (S.Stage.profile below)) }
+        ensures stage_below_is_cleared { IfOk result (λ s. IsClearedOf S.Stage s.below below) }
     {
         let change = Change::Alignment(raised_size(m)?);
-        let mut below = below;
-        below.clear();
-        Ok(Adjust { change, below })
+        Ok(Adjust {
+            change,
+            below: below.cleared(),
+        })
     }
 }
 

@@ -1,6 +1,6 @@
 -- The steps of the loop that gathers a list of registers.
-use Rattle.std.proofs.Common.{◌≡◌, ℕ, ◌+◌, ◌<◌, ◌≤◌, true, false, not, ◌&&◌, leb, List, ◌++◌, length, get_or, take, drop, sym, refl, ◌∙◌, subst, arith}
-use Rattle.std.proofs.lemmas.List.{at_drop_more, take-append-le, take_all}
+use Rattle.std.proofs.Common.{◌≡◌, ℕ, ◌+◌, ◌<◌, ◌≤◌, true, false, not, ◌&&◌, leb, List, length, get_or, drop, refl, ◌∙◌}
+use Rattle.std.proofs.lemmas.List.{at_drop_more}
 use Rattle.std.proofs.lemmas.Bool.{le-leb, lt-leb}
 use Rattle.place.specs.Registers.{has, with}
 use Rattle.banks.specs.Lists.{fresh_in, with_all}
@@ -23,7 +23,3 @@ module _ (set : ℕ) (xs : List ℕ) (i : ℕ) (h : i < length xs) where
 
   pub gathered : with_all set (drop i xs) ≡ with_all (with set x) (drop (i + 1) xs)
   gathered = at_drop_more (with_all set) xs i 0 h
-
--- a list in front of another is the first part of both
-pub front : (xs a b : List ℕ) → a ≡ xs → take (length xs) (a ++ b) ≡ xs
-front xs a b e = subst (λ l. take (length xs) (l ++ b) ≡ xs) (sym e) (take-append-le _ xs b (omega arith) ∙ take_all _ xs (omega arith))

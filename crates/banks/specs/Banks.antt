@@ -15,6 +15,10 @@ use Rattle.banks.specs.Lists.{set_of}
 abbrev pub bank_questions : List ℕ → Questions
 bank_questions xs = record { registers = set_of xs; block = false; sound = true; endless = λ r. false }
 
+-- the book of a bank that goes by a cursor through its registers
+abbrev pub bank_book : (List ℕ → ℕ → Request → Move) → List ℕ → ℕ → Book
+bank_book does xs = bottom_book (does xs) (λ n. 0)
+
 abbrev pub bank_profile : Book → List ℕ → Profile
 bank_profile b xs = record { first = b; first_blame = built_in; questions = bank_questions xs }
 
@@ -36,7 +40,7 @@ abbrev pub count_does : List ℕ → ℕ → Request → Move
 count_does xs n r = count_move xs n r.width
 
 abbrev pub count_book : List ℕ → ℕ → Book
-count_book xs = bottom_book (count_does xs) (λ n. 0)
+count_book = bank_book count_does
 
 abbrev pub count_profile : List ℕ → Profile
 count_profile xs = bank_profile (count_book xs 0) xs
@@ -56,7 +60,7 @@ abbrev pub bits_does : List ℕ → ℕ → Request → Move
 bits_does xs n r = bits_move xs n (bits_start n r) r.width
 
 abbrev pub bits_book : List ℕ → ℕ → Book
-bits_book xs = bottom_book (bits_does xs) (λ n. 0)
+bits_book = bank_book bits_does
 
 abbrev pub bits_profile : List ℕ → Profile
 bits_profile xs = bank_profile (bits_book xs 0) xs

@@ -2,3 +2,4 @@ pub mod Lists
 pub mod Banks
 pub mod Grants
 pub mod BanksLemmas
+pub mod GrantsLemmas

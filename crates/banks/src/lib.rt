@@ -1,6 +1,7 @@
 // The banks: stages that give registers of their own.
 #![tactic(auto)]
 
+pub mod bank;
 pub mod bits;
 pub mod count;
 mod register_list;

@@ -27,10 +27,8 @@ impl Up {
         ensures starts_empty_with_the_limit { IfOk result (λ s. (bytes s.limit ≡ limit) × (s.used ≡ 0)) }
         ensures places_follow_one_another { IfOk result (λ s. FollowOneAnother s.limit) }
     {
-        match Size::from_bytes(limit) {
-            Some(limit) => Ok(Up { limit, used: 0 }),
-            None => Err(ParameterFault::Range),
-        }
+        let limit = Size::try_from(limit)?;
+        Ok(Up { limit, used: 0 })
     }
 }
 
@@ -66,7 +64,7 @@ impl Stage for Up {
     fn place(&mut self, request: Request) -> Result<Place, Refusal> {
         let start = request.alignment.round_up(self.used);
         let end = start + u32::from(request.width.bytes());
-        if request.alignment.bytes() > self.limit.bytes() || end > 4096 {
+        if request.alignment > self.limit || end > 4096 {
             return Err(Refusal { line: 0 });
         }
         self.used = end as u16;
@@ -90,7 +88,7 @@ impl Stage for Up {
     }
 
     fn endless(&self, request: Request) -> bool {
-        request.alignment.bytes() <= self.limit.bytes()
+        request.alignment <= self.limit
     }
 
     fn reach(&self) -> u16 {

@@ -12,7 +12,7 @@ use values::kinds::Kind;
 use values::requests::Request;
 use values::sizes::Size;
 
-#[derive(Clone, Copy)]
+#[derive(Clone, Copy, PartialEq, Eq, Debug)]
 pub struct KindSet {
     unsigned: bool,
     signed: bool,
@@ -20,14 +20,14 @@ pub struct KindSet {
     address: bool,
 }
 
-#[derive(Clone, Copy)]
+#[derive(Clone, Copy, PartialEq, Eq, Debug)]
 pub enum Rule {
     Kinds(KindSet),
     // At least this wide.
     AtLeast(Size),
 }
 
-#[derive(Clone, Copy)]
+#[derive(Clone, Copy, PartialEq, Eq, Debug)]
 pub struct Test {
     rule: Rule,
 }
@@ -110,7 +110,7 @@ impl Test {
     {
         match self.rule {
             Rule::Kinds(set) => set.has(request.kind),
-            Rule::AtLeast(size) => size.bytes() <= request.width.bytes(),
+            Rule::AtLeast(size) => size <= request.width,
         }
     }
 }

@@ -67,3 +67,8 @@ PlacesApart p q = AllByRecursion (λ x. AllByRecursion (Apart x) (pieces q)) (pi
 abbrev pub piece_text : Piece → List ℕ
 piece_text (Register r) = 114 ∷ decimal r
 piece_text (Block o w) = 43 ∷ decimal o ++ 47 ∷ decimal (bytes w)
+
+-- a place as it is printed: its pieces, lowest first, with a space between them
+abbrev pub place_text : Place → List ℕ
+place_text (Single low) = piece_text low
+place_text (Double low high) = piece_text low ++ 32 ∷ piece_text high

@@ -1,6 +1,6 @@
 // Where a value is put.
 ghost use Rattle.std.specs.Prelude.{Some};
-ghost use Rattle.place.specs.Pieces.{piece_text};
+ghost use Rattle.place.specs.Pieces.{piece_text, place_text};
 
 use std::fmt;
 use values::sizes::Size;
@@ -26,15 +26,20 @@ impl fmt::Display for Piece {
 
     fn fmt<W: fmt::Write>(&self, f: &mut fmt::Formatter<W>) -> fmt::Result {
         match self {
-            Piece::Register(r) => {
-                let r = *r;
-                write!(f, "r{r}")
-            }
-            Piece::Block { offset, width } => {
-                let o = *offset;
-                let w = width.bytes();
-                write!(f, "+{o}/{w}")
-            }
+            Piece::Register(r) => write!(f, "r{r}"),
+            Piece::Block { offset, width } => write!(f, "+{offset}/{}", width.bytes()),
+        }
+    }
+}
+
+// As r3, or r3 r4.
+impl fmt::Display for Place {
+    ghost output = { λ p. Some (place_text p) };
+
+    fn fmt<W: fmt::Write>(&self, f: &mut fmt::Formatter<W>) -> fmt::Result {
+        match self {
+            Place::Single(low) => write!(f, "{low}"),
+            Place::Double(low, high) => write!(f, "{low} {high}"),
         }
     }
 }

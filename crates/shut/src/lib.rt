@@ -2,7 +2,7 @@
 #![tactic(auto)]
 
 ghost use Rattle.std.specs.Prelude.{◌≡◌, false};
-ghost use Rattle.stage.specs.Books.{Cleared};
+ghost use Rattle.stage.specs.Clearing.{IsClearedOf};
 ghost use Rattle.shut.specs.Shutting.{shut_book, shut_blame, shut_profile};
 ghost use Rattle.shut.specs.ShuttingLemmas.{shut_lawful};
 
@@ -20,13 +20,11 @@ pub struct Shut<S> {
 impl<S: Stage> Shut<S> {
     pub fn new(below: S) -> Shut<S>
         ensures is_not_closed { result.closed ≡ false }
-        ensures stage_below_is_cleared { Cleared (S.Stage.book result.below) (S.Stage.blame result.below) (S.Stage.profile result.below) (S.Stage.profile below) }
+        ensures stage_below_is_cleared { IsClearedOf S.Stage result.below below }
     {
-        let mut below = below;
-        below.clear();
         Shut {
             closed: false,
-            below,
+            below: below.cleared(),
         }
     }
 }

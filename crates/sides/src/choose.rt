@@ -1,6 +1,6 @@
 // Two stages, and a test that says which of them gets a request.
 ghost use Rattle.std.specs.Prelude.{◌≡◌};
-ghost use Rattle.stage.specs.Books.{Cleared};
+ghost use Rattle.stage.specs.Clearing.{IsClearedOf};
 ghost use Rattle.sides.specs.Sides.{choose_book, choose_blame, choose_profile};
 ghost use Rattle.sides.specs.Layers.{choose_lawful};
 
@@ -20,12 +20,13 @@ pub struct Choose<A, B> {
 impl<A: Stage, B: Stage> Choose<A, B> {
     pub fn new(test: Test, first: A, second: B) -> Choose<A, B>
         ensures chooses_by_the_test { result.test ≡ test }
-        ensures first_is_cleared { Cleared (A.Stage.book result.sides.first) (A.Stage.blame result.sides.first) (A.Stage.profile result.sides.first) (A.Stage.profile first) }
-        ensures second_is_cleared { Cleared (B.Stage.book result.sides.second) (B.Stage.blame result.sides.second) (B.Stage.profile result.sides.second) (B.Stage.profile second) }
+        ensures first_is_cleared { IsClearedOf A.Stage result.sides.first first }
+        ensures second_is_cleared { IsClearedOf B.Stage result.sides.second second }
     {
-        let mut sides = Pair { first, second };
-        sides.clear();
-        Choose { test, sides }
+        Choose {
+            test,
+            sides: Pair::new(first, second),
+        }
     }
 }
 
@@ -63,9 +64,10 @@ impl<A: Stage, B: Stage> Stage for Choose<A, B> {
     }
 
     fn endless(&self, request: Request) -> bool {
-        match self.test.meets(request) {
-            true => self.sides.first.endless(request),
-            false => self.sides.second.endless(request),
+        if self.test.meets(request) {
+            self.sides.first.endless(request)
+        } else {
+            self.sides.second.endless(request)
         }
     }
 

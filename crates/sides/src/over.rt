@@ -1,6 +1,6 @@
 // A stage in front of another, which gets only what the first refuses.
 ghost use Rattle.std.specs.Prelude.{◌≡◌};
-ghost use Rattle.stage.specs.Books.{Cleared};
+ghost use Rattle.stage.specs.Clearing.{IsClearedOf};
 ghost use Rattle.sides.specs.Sides.{over_book, over_blame, over_profile};
 ghost use Rattle.sides.specs.Layers.{over_lawful};
 
@@ -17,12 +17,12 @@ pub struct Over<A, B> {
 
 impl<A: Stage, B: Stage> Over<A, B> {
     pub fn new(first: A, second: B) -> Over<A, B>
-        ensures first_is_cleared { Cleared (A.Stage.book result.sides.first) (A.Stage.blame result.sides.first) (A.Stage.profile result.sides.first) (A.Stage.profile first) }
-        ensures second_is_cleared { Cleared (B.Stage.book result.sides.second) (B.Stage.blame result.sides.second) (B.Stage.profile result.sides.second) (B.Stage.profile second) }
+        ensures first_is_cleared { IsClearedOf A.Stage result.sides.first first }
+        ensures second_is_cleared { IsClearedOf B.Stage result.sides.second second }
     {
-        let mut sides = Pair { first, second };
-        sides.clear();
-        Over { sides }
+        Over {
+            sides: Pair::new(first, second),
+        }
     }
 }
 
@@ -36,6 +36,7 @@ impl<A: Stage, B: Stage> Stage for Over<A, B> {
     ghost lawful = { λ s. over_lawful _ _ _ _ (A.Stage.lawful s.sides.first) (B.Stage.lawful s.sides.second) };
 
     fn place(&mut self, request: Request) -> Result<Place, Refusal> {
+        // A proof would not know what the closure of `or_else` made of the second stage.
         match self.sides.first.place(request) {
             Ok(place) => Ok(place),
             Err(_) => self.sides.second.place(request),

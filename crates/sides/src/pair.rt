@@ -1,6 +1,7 @@
 // What two stages side by side have in common, whichever of them a request goes to.
 ghost use Rattle.std.specs.Prelude.{◌≡◌, max, ◌||◌, bit_or};
-ghost use Rattle.stage.specs.Books.{Cleared, used};
+ghost use Rattle.stage.specs.Books.{used};
+ghost use Rattle.stage.specs.Clearing.{IsClearedOf};
 ghost use Rattle.sides.specs.Sides.{sound_together};
 
 use place::registers::RegisterSet;
@@ -13,9 +14,20 @@ pub(crate) struct Pair<A, B> {
 }
 
 impl<A: Stage, B: Stage> Pair<A, B> {
+    // Two stages, both cleared.
+    pub(crate) fn new(first: A, second: B) -> Pair<A, B>
+        ensures first_is_cleared { IsClearedOf A.Stage result.first first }
+        ensures second_is_cleared { IsClearedOf B.Stage result.second second }
+    {
+        Pair {
+            first: first.cleared(),
+            second: second.cleared(),
+        }
+    }
+
     pub(crate) fn clear(&mut self)
-        ensures first_is_cleared { Cleared (A.Stage.book self.new.first) (A.Stage.blame self.new.first) (A.Stage.profile self.new.first) (A.Stage.profile self.old.first) }
-        ensures second_is_cleared { Cleared (B.Stage.book self.new.second) (B.Stage.blame self.new.second) (B.Stage.profile self.new.second) (B.Stage.profile self.old.second) }
+        ensures first_is_cleared { IsClearedOf A.Stage self.new.first self.old.first }
+        ensures second_is_cleared { IsClearedOf B.Stage self.new.second self.old.second }
     {
         self.first.clear();
         self.second.clear();

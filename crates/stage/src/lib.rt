@@ -4,9 +4,10 @@
 ghost use Rattle.std.specs.Prelude.{◌≡◌, [], IfOk, IfErr, Some, decimal};
 ghost use Rattle.std.specs.Result.{result_ok};
 ghost use Rattle.values.specs.Sizes.{bytes};
-ghost use Rattle.stage.specs.Books.{Book, Blame, Profile, said, used, after};
+ghost use Rattle.stage.specs.Books.{Book, Blame, Profile, Cleared, said, used, after};
 ghost use Rattle.stage.specs.Faults.{fault_of, parameter_fault, width_fault};
 ghost use Rattle.stage.specs.Lawful.{Lawful};
+ghost use Rattle.stage.specs.declared.ParameterFault.TheVariants.{Range};
 
 use place::pieces::Place;
 use place::registers::RegisterSet;
@@ -14,6 +15,7 @@ use std::error::Error;
 use std::fmt;
 use values::requests::Request;
 use values::sizes::Size;
+use values::unknown::Unknown;
 
 // A request that was not granted.
 #[derive(Clone, Copy, PartialEq, Eq, Debug)]
@@ -46,16 +48,23 @@ impl fmt::Display for ParameterFault {
 
 impl Error for ParameterFault {}
 
+// A number that is no size is out of its range.
+impl From<Unknown> for ParameterFault {
+    ghost from_gives = { λ _ f. f ≡ Range };
+
+    fn from(_unknown: Unknown) -> ParameterFault {
+        Self::Range
+    }
+}
+
 // The size of n bytes, where it is one that a layer can test for or raise to.
 pub fn raised_size(n: u8) -> Result<Size, ParameterFault>
     ensures refused_unless_2_4_or_8 { fault_of result ≡ width_fault n }
     ensures of_n_bytes { IfOk result (λ s. bytes s ≡ n) }
 {
-    match n {
-        2 => Ok(Size::Two),
-        4 => Ok(Size::Four),
-        8 => Ok(Size::Eight),
-        _ => Err(ParameterFault::Range),
+    match Size::try_from(n)? {
+        Size::One => Err(ParameterFault::Range),
+        size => Ok(size),
     }
 }
 
@@ -82,6 +91,17 @@ pub trait Stage {
         ensures first_book_is_back { book self.new ≡ (profile self.old).first }
         ensures first_blame_is_back { blame self.new ≡ (profile self.old).first_blame }
         ensures profile_stays { profile self.new ≡ profile self.old };
+
+    // The stage itself, back at the beginning: so does a layer take the stage below it.
+    final fn cleared(self) -> Self
+    where
+        Self: Sized,
+        ensures is_back_at_the_beginning { Cleared (book result) (blame result) (profile result) (profile self) }
+    {
+        let mut stage = self;
+        stage.clear();
+        stage
+    }
 
     // The registers that it may give.
     fn registers(&self) -> RegisterSet

@@ -1,13 +1,18 @@
 -- Sizes in bytes.
-use Rattle.std.specs.Prelude.{ℕ, ◌+◌, ◌-◌, ◌*◌, ◌/◌, cond, nat_lt}
+use Rattle.std.specs.Prelude.{◌≡◌, ◌≢◌, ℕ, ◌+◌, ◌-◌, ◌*◌, ◌/◌, cond, nat_lt, Result, MatchResult}
 use Rattle.values.specs.declared.sizes.Size.{Size}
 use Rattle.values.specs.declared.sizes.Size.TheVariants.{One, Two, Four, Eight}
+use Rattle.values.specs.declared.unknown.Unknown.{Unknown}
 
 abbrev pub bytes : Size → ℕ
 bytes One = 1
 bytes Two = 2
 bytes Four = 4
 bytes Eight = 8
+
+-- the size of n bytes, or that there is none
+abbrev pub SizeOfTheBytesOrNone : ℕ → Result Size Unknown → Type 0
+SizeOfTheBytesOrNone n r = MatchResult r (λ s. bytes s ≡ n) (λ _. (s : Size) → bytes s ≢ n)
 
 -- s, or m where that is larger
 abbrev pub larger_of : Size → Size → Size

@@ -1,6 +1,8 @@
 // Kinds of values, and the letters that stand for them.
-ghost use Rattle.std.specs.Prelude.{◌≡◌, MatchOption, ◌≢◌};
-ghost use Rattle.values.specs.Kinds.{letter_of};
+ghost use Rattle.std.specs.Prelude.{◌≡◌};
+ghost use Rattle.values.specs.Kinds.{letter_of, KindOfTheLetterOrNone};
+
+use crate::unknown::Unknown;
 
 #[derive(Clone, Copy, PartialEq, Eq, Debug)]
 pub enum Kind {
@@ -11,27 +13,31 @@ pub enum Kind {
     Address,
 }
 
-impl Kind {
-    pub(crate) fn letter(self) -> char
-        ensures its_letter { result ≡ letter_of self }
-    {
-        match self {
+impl From<Kind> for char {
+    ghost from_gives = { λ k letter. letter ≡ letter_of k };
+
+    fn from(kind: Kind) -> char {
+        match kind {
             Kind::Unsigned => 'u',
             Kind::Signed => 's',
             Kind::Float => 'f',
             Kind::Address => 'a',
         }
     }
+}
 
-    pub fn from_letter(letter: char) -> Option<Kind>
-        ensures the_kind_of_the_letter_or_none { MatchOption result ((k : Kind) → letter_of k ≢ letter) (λ k. letter_of k ≡ letter) }
-    {
+impl TryFrom<char> for Kind {
+    type Error = Unknown;
+
+    ghost try_from_gives = { KindOfTheLetterOrNone };
+
+    fn try_from(letter: char) -> Result<Kind, Unknown> {
         match letter {
-            'u' => Some(Kind::Unsigned),
-            's' => Some(Kind::Signed),
-            'f' => Some(Kind::Float),
-            'a' => Some(Kind::Address),
-            _ => None,
+            'u' => Ok(Kind::Unsigned),
+            's' => Ok(Kind::Signed),
+            'f' => Ok(Kind::Float),
+            'a' => Ok(Kind::Address),
+            _ => Err(Unknown),
         }
     }
 }

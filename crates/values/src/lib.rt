@@ -5,4 +5,5 @@ pub mod kinds;
 pub mod requests;
 pub mod sizes;
 pub mod types;
+pub mod unknown;
 pub mod value_type;

@@ -18,7 +18,7 @@ impl Request {
         ensures only_a_smaller_width_is_raised { result ≡ widened m self }
     {
         Request {
-            width: self.width.at_least(m),
+            width: self.width.max(m),
             ..self
         }
     }
@@ -28,7 +28,7 @@ impl Request {
         ensures only_a_smaller_alignment_is_raised { result ≡ raised m self }
     {
         Request {
-            alignment: self.alignment.at_least(m),
+            alignment: self.alignment.max(m),
             ..self
         }
     }

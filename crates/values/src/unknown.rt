@@ -1,0 +1,18 @@
+// What names no kind, no size or no type.
+ghost use Rattle.std.specs.Prelude.{Some, codes};
+
+use std::error::Error;
+use std::fmt;
+
+#[derive(Clone, Copy, PartialEq, Eq, Debug)]
+pub struct Unknown;
+
+impl fmt::Display for Unknown {
+    ghost output = { λ _. Some (codes "no type") };
+
+    fn fmt<W: fmt::Write>(&self, f: &mut fmt::Formatter<W>) -> fmt::Result {
+        f.write_str("no type")
+    }
+}
+
+impl Error for Unknown {}
