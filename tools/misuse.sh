@@ -15,6 +15,7 @@ failed=0
 check() {
     {
         echo '#![tactic(auto)]'
+        echo 'use allocation::asked::Asked;'
         echo 'use allocation::frozen::Frozen;'
         echo 'use allocation::opened::Open;'
         echo 'use emit::caller::caller_code;'
@@ -47,9 +48,9 @@ rejects() {
 }
 
 accepts 'what the types allow' <<'BODY'
-    let _ = open.place(Kind::Unsigned, 4, 4);
+    let _ = open.place(Asked::aligned(Kind::Unsigned, 4));
     open = open.freeze().reopen();
-    let _ = open.place(Kind::Unsigned, 4, 4);
+    let _ = open.place(Asked::aligned(Kind::Unsigned, 4));
     let frozen = open.freeze();
     let _ = caller_code(&frozen, &frozen, RegisterSet::EMPTY, &mut []);
     frozen
@@ -57,13 +58,13 @@ BODY
 
 rejects 'placing on a frozen allocation' unknown-method <<'BODY'
     let mut frozen = open.freeze();
-    let _ = frozen.place(Kind::Unsigned, 4, 4);
+    let _ = frozen.place(Asked::aligned(Kind::Unsigned, 4));
     frozen
 BODY
 
 rejects 'placing on an allocation after it was frozen' borrow-e0382 <<'BODY'
     let frozen = open.freeze();
-    let _ = open.place(Kind::Unsigned, 4, 4);
+    let _ = open.place(Asked::aligned(Kind::Unsigned, 4));
     frozen
 BODY
 

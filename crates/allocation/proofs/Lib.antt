@@ -1,3 +1,2 @@
 pub mod Compared
 pub mod Numbers
-pub mod Placing

@@ -9,8 +9,9 @@ use Rattle.values.specs.declared.sizes.Size.TheVariants.{One, Two, Four, Eight}
 use Rattle.place.specs.declared.pieces.Place.{Place}
 use Rattle.stage.specs.Books.{said, after}
 use Rattle.allocation.specs.Faults.{Answer, cause_number}
+use Rattle.allocation.specs.declared.asked.Asked.{Asked}
 use Rattle.allocation.specs.declared.faults.Cause.{Cause}
-use Rattle.allocation.specs.declared.shared.Wanted.{Wanted}
+use Rattle.allocation.specs.declared.wanted.Wanted.{Wanted}
 use Rattle.place.specs.Holdings.{Holding}
 use Rattle.allocation.specs.States.{State}
 
@@ -25,8 +26,8 @@ request_in k (Some w) None = None
 request_in k (Some w) (Some a) = cond (is_type k w) (Some (record { kind = k; width = w; alignment = a })) None
 
 -- the request that is given by numbers, if it is one
-abbrev pub request_of : Kind → ℕ → ℕ → Option Request
-request_of k w a = request_in k (size_of w) (size_of a)
+abbrev pub request_of : Asked → Option Request
+request_of q = request_in q.kind (size_of q.width) (size_of q.alignment)
 
 -- a request for a type at an alignment
 abbrev pub request_for : Wanted → Request
@@ -38,8 +39,8 @@ reaching_with held sound None = Err 21
 reaching_with held sound (Some r) = cond (nat_le 16 held) (Err 22) (cond sound (Ok r) (Err 23))
 
 -- the same, of a request that is given by numbers
-abbrev pub reaching : State → Kind → ℕ → ℕ → Result Request ℕ
-reaching s k w a = reaching_with (length s.held) s.profile.questions.sound (request_of k w a)
+abbrev pub reaching : State → Asked → Result Request ℕ
+reaching s q = reaching_with (length s.held) s.profile.questions.sound (request_of q)
 
 -- what was let through to the pile
 abbrev pub admitted : Result Wanted Cause → Result Request ℕ
@@ -61,8 +62,8 @@ answer_for s (Err n) = refusal s n
 answer_for s (Ok r) = pile_answer s (said s.book r)
 
 -- what place answers
-abbrev pub place_answer : State → Kind → ℕ → ℕ → Answer
-place_answer s k w a = answer_for s (reaching s k w a)
+abbrev pub place_answer : State → Asked → Answer
+place_answer s q = answer_for s (reaching s q)
 
 -- a place for a request, as it is held
 abbrev pub holding_for : Request → Place → Holding
@@ -79,8 +80,8 @@ placed_by s (Ok r) = record {
 }
 
 -- what place makes of an allocation
-abbrev pub placed : State → Kind → ℕ → ℕ → State
-placed s k w a = placed_by s (reaching s k w a)
+abbrev pub placed : State → Asked → State
+placed s q = placed_by s (reaching s q)
 
 -- the line n where there is no place
 abbrev pub line_among : ℕ → Option Place → Option ℕ
@@ -93,5 +94,5 @@ line_by s (Err n) = None
 line_by s (Ok r) = line_among (s.blame [] r) (said s.book r)
 
 -- the line that a refusal of place has, where it has one
-abbrev pub blamed_line : State → Kind → ℕ → ℕ → Option ℕ
-blamed_line s k w a = line_by s (reaching s k w a)
+abbrev pub blamed_line : State → Asked → Option ℕ
+blamed_line s q = line_by s (reaching s q)

@@ -1,5 +1,5 @@
 -- What an allocation is.
-use Rattle.std.specs.Prelude.{Bool, ◌&&◌, List, [], map, take}
+use Rattle.std.specs.Prelude.{Bool, ◌&&◌, List, [], map}
 use Rattle.values.specs.Types.{own_request}
 use Rattle.values.specs.declared.value_type.ValueType.{ValueType}
 use Rattle.place.specs.Holdings.{Holding}
@@ -15,17 +15,17 @@ pub record State : Type 0 where
   pub blame : Blame
   pub held : List Holding
 
--- as the table has it
+-- a held place as the definitions have it
 abbrev pub holding : Held → Holding
 holding h = record { kind = h.value.kind; width = h.value.width; place = h.place }
 
 -- the state of an allocation, by the ghost members of its pile
-abbrev pub state : {P : Type 0} → Ghosts P → Allocation P → State
+abbrev pub state : {P S : Type 0} → Ghosts P → Allocation P S → State
 state g a = record {
   profile = g.profile a.pile;
   book = g.book a.pile;
   blame = g.blame a.pile;
-  held = map holding (take a.held.len a.held.table);
+  held = map holding a.held.items;
 }
 
 -- newly opened or reopened: the pile is cleared, and nothing is held

@@ -2,13 +2,14 @@
 ghost use Rattle.std.specs.Prelude.{◌≡◌, ◌==◌, ◌&&◌};
 ghost use Rattle.std.specs.Bool.{Decides};
 ghost use Rattle.allocation.specs.Faults.{cause_number, placement_fault};
-ghost use Rattle.allocation.specs.declared.faults.Cause.TheVariants.{Refused};
+ghost use Rattle.allocation.specs.declared.faults.Cause.TheVariants.{NotAType, Refused};
 ghost use Rattle.std.specs.Cmp.Rules.{comparing};
 ghost use Rattle.std.proofs.Common.{rules};
 
 use stage::Refusal;
+use values::unknown::Unknown;
 
-#[derive(Clone, Copy, Debug)]
+#[derive(Clone, Copy, PartialEq, Eq, Debug)]
 pub enum Cause {
     // Not one of the eleven types, or not an alignment.
     NotAType,
@@ -31,6 +32,15 @@ impl From<Refusal> for Cause {
 
     fn from(refusal: Refusal) -> Cause {
         Cause::Refused(refusal)
+    }
+}
+
+// What is no type, or no alignment, is 21.
+impl From<Unknown> for Cause {
+    ghost from_gives = { λ _ c. c ≡ NotAType };
+
+    fn from(_unknown: Unknown) -> Cause {
+        Self::NotAType
     }
 }
 

@@ -1,7 +1,13 @@
 // The places that an allocation holds.
-ghost use Rattle.std.specs.Prelude.{◌≡◌, ◌≤◌, length};
+ghost use Rattle.std.specs.Prelude.{◌≡◌};
+ghost use Rattle.place.specs.declared.pieces.Piece.TheVariants.{Register};
+ghost use Rattle.place.specs.declared.pieces.Place.TheVariants.{Single};
+ghost use Rattle.values.specs.declared.kinds.Kind.TheVariants.{Unsigned};
+ghost use Rattle.values.specs.declared.sizes.Size.TheVariants.{One};
 
-use place::pieces::Place;
+use place::pieces::{Piece, Place};
+use values::kinds::Kind;
+use values::sizes::Size;
 use values::value_type::ValueType;
 
 // A place that was granted, and the type that it was granted for.
@@ -11,11 +17,20 @@ pub struct Held {
     pub place: Place,
 }
 
-// Up to sixteen, the first len of a table.
-#[derive(Drop)]
-pub(crate) struct HeldPlaces {
-    pub(crate) table: [Held; 16],
-    pub(crate) len: usize,
-    ghost whole: { length table ≡ 16 },
-    ghost few: { len ≤ 16 },
+// The most places that an allocation holds.
+pub(crate) const MOST: usize = 16;
+
+// What stands where no place is held.
+impl Default for Held {
+    ghost is_default = { λ h. (h.value.kind ≡ Unsigned) × (h.value.width ≡ One) × (h.place ≡ Single (Register 0)) };
+
+    fn default() -> Held {
+        Held {
+            value: ValueType {
+                kind: Kind::Unsigned,
+                width: Size::One,
+            },
+            place: Place::Single(Piece::Register(0)),
+        }
+    }
 }

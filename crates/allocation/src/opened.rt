@@ -1,77 +1,94 @@
 // Allocations that place.
-ghost use Rattle.std.specs.Prelude.{◌≡◌, map};
-ghost use Rattle.allocation.specs.Faults.{answer_of, line_of};
-ghost use Rattle.allocation.specs.States.{state, holding, opened, always_placed};
-ghost use Rattle.allocation.specs.Rules.{placed, place_answer, blamed_line};
+ghost use Rattle.std.specs.Prelude.{◌≡◌, ◌<◌, length, IfErr, None, OnOk};
 
-use crate::faults::PlacementFault;
+use crate::asked::Asked;
+use crate::faults::{Cause, PlacementFault};
 use crate::frozen::Frozen;
-use crate::held::{Held, HeldPlaces};
+use crate::held::Held;
 use crate::shared::Allocation;
-use place::pieces::{Piece, Place};
+use crate::wanted::Wanted;
+use arrayvec::ArrayVec;
+use place::pieces::Place;
 use stage::Stage;
-use values::kinds::Kind;
-use values::sizes::Size;
-use values::value_type::ValueType;
+use std::marker::PhantomData;
+use values::requests::Request;
 
-#[derive(Drop)]
-pub struct Open<P> {
-    pub(crate) allocation: Allocation<P>,
-}
+// The state of an allocation that can place more.
+#[derive(Clone, Copy, Debug)]
+pub struct Placing;
 
-// What stands in the table where no place is held.
-const UNUSED: Held = Held {
-    value: ValueType {
-        kind: Kind::Unsigned,
-        width: Size::One,
-    },
-    place: Place::Single(Piece::Register(0)),
-};
+pub type Open<P> = Allocation<P, Placing>;
 
-impl<P: Stage> Open<P> {
+impl<P: Stage> Allocation<P, Placing> {
+    ghost use Rattle.allocation.specs.Faults.{answer_of, line_of, cause_line, positioned};
+    ghost use Rattle.allocation.specs.States.{state, opened};
+    ghost use Rattle.allocation.specs.Rules.{admitted, reaching, placed, place_answer, blamed_line};
+
     pub fn new(pile: P) -> Open<P>
-        ensures newly_opened { state P.Stage result.allocation ≡ opened (P.Stage.profile pile) }
+        ensures newly_opened { state P.Stage result ≡ opened (P.Stage.profile pile) }
     {
-        let held = HeldPlaces {
-            table: [UNUSED; 16],
-            len: 0,
+        let table: Open<P> = Allocation {
+            pile,
+            held: ArrayVec::new(),
+            state: PhantomData,
         };
-        let mut allocation = Allocation { pile, held };
-        allocation.clear();
-        Open { allocation }
+        table.cleared()
     }
 
-    // A place for a value of this kind, at a width and an alignment in bytes.
-    pub fn place(&mut self, kind: Kind, width: u8, alignment: u8) -> Result<Place, PlacementFault>
-        ensures answers_by_the_rules { answer_of result ≡ place_answer (state P.Stage self.old.allocation) kind width alignment }
-        ensures pile_refusal_has_the_blamed_line { line_of result ≡ blamed_line (state P.Stage self.old.allocation) kind width alignment }
-        ensures moves_by_the_rules { state P.Stage self.new.allocation ≡ placed (state P.Stage self.old.allocation) kind width alignment }
+    // What the pile is asked, or the refusal before that, lowest number first.
+    fn admit(&self, asked: Asked) -> Result<Wanted, Cause>
+        ensures lowest_number_first { admitted result ≡ reaching (state P.Stage self.now) asked }
+        ensures admits_below_sixteen { OnOk result (length self.now.held.items < 16) }
+        ensures refusals_have_no_line { IfErr result (λ c. cause_line c ≡ None) }
     {
-        let position = self.allocation.held.len;
-        match self.allocation.place(kind, width, alignment) {
-            Ok(place) => Ok(place),
-            Err(cause) => Err(PlacementFault { cause, position }),
+        let wanted = Wanted::try_from(asked)?;
+        if self.held.is_full() {
+            return Err(Cause::Full);
         }
+        if !self.pile.sound() {
+            return Err(Cause::Unsound);
+        }
+        Ok(wanted)
+    }
+
+    // A place, which is held from then on.
+    fn grant(&mut self, asked: Asked) -> Result<Place, Cause>
+        ensures answers_by_the_rules { answer_of (positioned (length self.old.held.items) result) ≡ place_answer (state P.Stage self.old) asked }
+        ensures pile_refusal_has_the_blamed_line { line_of (positioned (length self.old.held.items) result) ≡ blamed_line (state P.Stage self.old) asked }
+        ensures moves_by_the_rules { state P.Stage self.new ≡ placed (state P.Stage self.old) asked }
+    {
+        let wanted = self.admit(asked)?;
+        let place = self.pile.place(Request::from(wanted))?;
+        self.held.push(Held {
+            value: wanted.value,
+            place,
+        });
+        Ok(place)
+    }
+
+    // A place for a value that is given by numbers; it is held from then on.
+    pub fn place(&mut self, asked: Asked) -> Result<Place, PlacementFault>
+        ensures answers_by_the_rules { answer_of result ≡ place_answer (state P.Stage self.old) asked }
+        ensures pile_refusal_has_the_blamed_line { line_of result ≡ blamed_line (state P.Stage self.old) asked }
+        ensures moves_by_the_rules { state P.Stage self.new ≡ placed (state P.Stage self.old) asked }
+    {
+        let position = self.held.len();
+        self.grant(asked)
+            .map_err(|cause| PlacementFault { cause, position })
     }
 
     pub fn freeze(self) -> Frozen<P>
-        ensures pile_and_held_places_stay { state P.Stage result.allocation ≡ state P.Stage self.allocation }
+        ensures pile_and_held_places_stay { state P.Stage result ≡ state P.Stage self }
     {
-        let Open { allocation } = self;
-        Frozen { allocation }
-    }
-
-    // Whether this type, at its own alignment, is placed until the block is nearly full or sixteen are held.
-    pub fn always_places(&self, value: ValueType) -> bool
-        ensures endless_at_its_own_alignment_in_a_sound_pile { result ≡ always_placed (state P.Stage self.now.allocation).profile.questions value }
-    {
-        self.allocation.always_places(value)
-    }
-
-    // The places granted since it was opened, in order.
-    pub fn held(&self) -> &[Held]
-        ensures granted_since_opened_in_order { map holding result.now ≡ (state P.Stage self.now.allocation).held }
-    {
-        self.allocation.held()
+        let Allocation {
+            pile,
+            held,
+            state: _,
+        } = self;
+        Allocation {
+            pile,
+            held,
+            state: PhantomData,
+        }
     }
 }

@@ -4,7 +4,8 @@
 #[cfg(test)]
 mod tests {
     use adjust::Adjust;
-    use allocation::faults::PlacementFault;
+    use allocation::answers::Answer;
+    use allocation::asked::Asked;
     use allocation::held::Held;
     use allocation::opened::Open;
     use banks::bits::Bits;
@@ -18,18 +19,25 @@ mod tests {
     use values::kinds::Kind;
     use values::value_type::ValueType;
 
-    // The number and position of a refusal; 0 and 0 for a grant.
-    fn fault(answer: Result<Place, PlacementFault>) -> (u8, usize) {
-        match answer {
-            Ok(_) => (0, 0),
-            Err(fault) => (fault.cause.number(), fault.position),
+    // The number and position of a refusal; none for a grant.
+    fn fault(answer: Answer) -> Option<(u8, usize)> {
+        answer
+            .err()
+            .map(|fault| (fault.cause.number(), fault.position))
+    }
+
+    fn asked(kind: Kind, width: u8, alignment: u8) -> Asked {
+        Asked {
+            kind,
+            width,
+            alignment,
         }
     }
 
     #[test]
     fn what_is_no_type_or_no_alignment_is_21(rt: HostRuntime) -> Result<(), Fail> {
         let mut open = Open::new(Up::new(8)?);
-        assert_eq!(rt; fault(open.place(Kind::Unsigned, 1, 1)), (0, 0));
+        assert_eq!(rt; fault(open.place(Asked::aligned(Kind::Unsigned, 1))), None);
         let table = [
             (Kind::Unsigned, 3, 1),
             (Kind::Float, 2, 2),
@@ -38,7 +46,10 @@ mod tests {
             (Kind::Signed, 0, 1),
         ];
         for (kind, width, alignment) in table {
-            assert_eq!(rt; fault(open.place(kind, width, alignment)), (21, 1));
+            assert_eq!(rt;
+                fault(open.place(asked(kind, width, alignment))),
+                Some((21, 1))
+            );
         }
         assert_eq!(rt; open.held().len(), 1);
         Ok(())
@@ -48,10 +59,16 @@ mod tests {
     fn the_seventeenth_place_is_22(rt: HostRuntime) -> Result<(), Fail> {
         let mut open = Open::new(Up::new(8)?);
         for _ in 0..16 {
-            assert_eq!(rt; fault(open.place(Kind::Unsigned, 4, 4)), (0, 0));
+            assert_eq!(rt; fault(open.place(Asked::aligned(Kind::Unsigned, 4))), None);
         }
-        assert_eq!(rt; fault(open.place(Kind::Unsigned, 4, 4)), (22, 16));
-        assert_eq!(rt; fault(open.place(Kind::Unsigned, 3, 4)), (21, 16));
+        assert_eq!(rt;
+            fault(open.place(Asked::aligned(Kind::Unsigned, 4))),
+            Some((22, 16))
+        );
+        assert_eq!(rt;
+            fault(open.place(asked(Kind::Unsigned, 3, 4))),
+            Some((21, 16))
+        );
         Ok(())
     }
 
@@ -59,31 +76,49 @@ mod tests {
     fn an_unsound_pile_gives_23(rt: HostRuntime) -> Result<(), Fail> {
         let mut open = Open::new(Over::new(Count::new(&[0])?, Bits::new(&[0, 1])?));
         for width in [1, 2, 4, 8] {
-            assert_eq!(rt; fault(open.place(Kind::Unsigned, width, width)), (23, 0));
+            assert_eq!(rt;
+                fault(open.place(Asked::aligned(Kind::Unsigned, width))),
+                Some((23, 0))
+            );
         }
-        assert_eq!(rt; fault(open.place(Kind::Float, 1, 1)), (21, 0));
+        assert_eq!(rt;
+            fault(open.place(Asked::aligned(Kind::Float, 1))),
+            Some((21, 0))
+        );
         Ok(())
     }
 
     #[test]
     fn a_pile_that_refuses_gives_24_and_goes_on(rt: HostRuntime) -> Result<(), Fail> {
         let mut open = Open::new(Count::new(&[0, 1])?);
-        assert_eq!(rt; fault(open.place(Kind::Unsigned, 8, 8)), (24, 0));
         assert_eq!(rt;
-            open.place(Kind::Unsigned, 4, 4).ok(),
+            fault(open.place(Asked::aligned(Kind::Unsigned, 8))),
+            Some((24, 0))
+        );
+        assert_eq!(rt;
+            open.place(Asked::aligned(Kind::Unsigned, 4)).ok(),
             Some(Place::Single(Piece::Register(0)))
         );
-        assert_eq!(rt; fault(open.place(Kind::Unsigned, 8, 8)), (24, 1));
+        assert_eq!(rt;
+            fault(open.place(Asked::aligned(Kind::Unsigned, 8))),
+            Some((24, 1))
+        );
         Ok(())
     }
 
     #[test]
     fn reopening_opens_a_shut_again(rt: HostRuntime) -> Result<(), Fail> {
         let mut open = Open::new(Shut::new(Bits::new(&[0, 1])?));
-        assert_eq!(rt; fault(open.place(Kind::Unsigned, 1, 1)), (24, 0));
-        assert_eq!(rt; fault(open.place(Kind::Unsigned, 4, 4)), (24, 0));
+        assert_eq!(rt;
+            fault(open.place(Asked::aligned(Kind::Unsigned, 1))),
+            Some((24, 0))
+        );
+        assert_eq!(rt;
+            fault(open.place(Asked::aligned(Kind::Unsigned, 4))),
+            Some((24, 0))
+        );
         let mut again = open.freeze().reopen();
-        assert_eq!(rt; fault(again.place(Kind::Unsigned, 4, 4)), (0, 0));
+        assert_eq!(rt; fault(again.place(Asked::aligned(Kind::Unsigned, 4))), None);
         assert_eq!(rt; again.held().len(), 1);
         Ok(())
     }
@@ -99,9 +134,7 @@ mod tests {
             (b"u8", false),
         ];
         for (word, expected) in table {
-            let Some(value) = ValueType::from_word(word) else {
-                return Err(Fail::new("no type"));
-            };
+            let value = ValueType::try_from(word.as_slice())?;
             assert_eq!(rt; pile.always_places(value), expected);
         }
         Ok(())

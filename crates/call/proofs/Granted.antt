@@ -11,10 +11,10 @@ use Rattle.place.specs.declared.pieces.Place.{Place}
 use Rattle.stage.specs.Books.{Profile, said}
 use Rattle.stage.specs.Faults.{Fault}
 use Rattle.allocation.specs.Faults.{Answer}
-use Rattle.allocation.specs.Rules.{size_of, request_in, request_of, reaching_with, reaching, answer_for, pile_answer}
+use Rattle.allocation.specs.Rules.{size_of, request_in, request_of, reaching_with, reaching, answer_for, pile_answer, placed, place_answer}
 use Rattle.allocation.specs.States.{State, opened}
-use Rattle.histories.specs.Histories.{answer_next, placed_next, placed_all, grant, as_held, grant_by, grants}
-use Rattle.histories.specs.declared.asked.Asked.{Asked}
+use Rattle.histories.specs.Histories.{placed_all, grant, as_held, grant_by, grants}
+use Rattle.allocation.specs.declared.asked.Asked.{Asked}
 use Rattle.histories.proofs.Granting.{held_grants}
 use Rattle.call.specs.Placing.{asked, fault_else, first_refused}
 use Rattle.call.specs.Astray.{HeldFor}
@@ -35,8 +35,8 @@ head_granted (Err f) next e = some_none f e
 pub all_asked : (qs : List Asked) (s : State) → first_refused s qs ≡ None → asked s qs ≡ qs
 all_asked [] s e = refl
 all_asked (q ∷ qs) s e =
-    let first = head_granted (answer_next s q) (first_refused (placed_next s q) qs) e in
-    rw first.1 (ap (λ (l : List Asked). q ∷ l) (all_asked qs (placed_next s q) first.2))
+    let first = head_granted (place_answer s q) (first_refused (placed s q) qs) e in
+    rw first.1 (ap (λ (l : List Asked). q ∷ l) (all_asked qs (placed s q) first.2))
 
 -- a size that is given by a number has that number of bytes
 size_bytes : (n : ℕ) (s : Size) → size_of n ≡ Some s → bytes s ≡ n
@@ -80,13 +80,13 @@ granted_one s t r p e f = ap (grant_by s) e ∙ ap (λ (o : Option Place). optio
 held_for : (qs : List Asked) (s : State) → first_refused s qs ≡ None → HeldFor qs (map as_held (grants s qs))
 held_for [] s e = tt
 held_for (q ∷ qs) s e =
-    let first = head_granted (answer_next s q) (first_refused (placed_next s q) qs) e in
-    let t = reaching s q.kind q.width q.alignment in
+    let first = head_granted (place_answer s q) (first_refused (placed s q) qs) e in
+    let t = reaching s q in
     let got = answer_is s t first.0 first.1 in
     let r = got.0 in
-    let has = request_has q.kind (size_of q.width) (size_of q.alignment) r (reached_is (length s.held) s.profile.questions.sound (request_of q.kind q.width q.alignment) r got.1) in
-    subst (λ gs. HeldFor (q ∷ qs) (map as_held (gs ++ grants (placed_next s q) qs))) (sym (granted_one s t r first.0 got.1 got.2))
-    (has.0, size_bytes q.width r.width has.1, held_for qs (placed_next s q) first.2)
+    let has = request_has q.kind (size_of q.width) (size_of q.alignment) r (reached_is (length s.held) s.profile.questions.sound (request_of q) r got.1) in
+    subst (λ gs. HeldFor (q ∷ qs) (map as_held (gs ++ grants (placed s q) qs))) (sym (granted_one s t r first.0 got.1 got.2))
+    (has.0, size_bytes q.width r.width has.1, held_for qs (placed s q) first.2)
 
 pub placed_holds : (p : Profile) (qs : List Asked) → first_refused (opened p) qs ≡ None → HeldFor qs (placed_all (opened p) qs).held
 placed_holds p qs e = subst (HeldFor qs) (sym (held_grants qs (opened p))) (held_for qs (opened p) e)

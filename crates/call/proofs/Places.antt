@@ -5,8 +5,9 @@ use Rattle.stage.specs.Faults.{Fault}
 use Rattle.place.specs.declared.pieces.Place.{Place}
 use Rattle.allocation.specs.Faults.{Answer}
 use Rattle.allocation.specs.States.{State}
-use Rattle.histories.specs.Histories.{History, answer_next, placed_next, placed_all, reopened, played}
-use Rattle.histories.specs.declared.asked.Asked.{Asked}
+use Rattle.allocation.specs.Rules.{place_answer, placed}
+use Rattle.histories.specs.Histories.{History, placed_all, reopened, played}
+use Rattle.allocation.specs.declared.asked.Asked.{Asked}
 use Rattle.histories.proofs.Rounds.{profile_stays, rounds_leave_nothing}
 use Rattle.call.specs.Placing.{asked, placed_until, fault_else, first_refused, Placement, placement, Sides, ComesOf}
 
@@ -15,17 +16,17 @@ pub played_profile : (p : Profile) (h : History) → (played p h).profile ≡ p
 played_profile p h = profile_stays h.since (reopened p h) ∙ ap (λ (s : State). s.profile) (rounds_leave_nothing h.rounds p)
 
 module _ (s : State) (q : Asked) (qs : List Asked) where
-  pub granted_goes_on : (p : Place) → Ok p ≡ answer_next s q → placed_until (placed_next s q) qs ≡ placed_until s (q ∷ qs)
-  granted_goes_on p e = ap (λ (a : Answer). placed_all (placed_next s q) (cond (is_ok a) (asked (placed_next s q) qs) [])) e
+  pub granted_goes_on : (p : Place) → Ok p ≡ place_answer s q → placed_until (placed s q) qs ≡ placed_until s (q ∷ qs)
+  granted_goes_on p e = ap (λ (a : Answer). placed_all (placed s q) (cond (is_ok a) (asked (placed s q) qs) [])) e
 
-  pub granted_no_fault : (p : Place) → Ok p ≡ answer_next s q → first_refused (placed_next s q) qs ≡ first_refused s (q ∷ qs)
-  granted_no_fault p e = ap (λ (a : Answer). fault_else a (first_refused (placed_next s q) qs)) e
+  pub granted_no_fault : (p : Place) → Ok p ≡ place_answer s q → first_refused (placed s q) qs ≡ first_refused s (q ∷ qs)
+  granted_no_fault p e = ap (λ (a : Answer). fault_else a (first_refused (placed s q) qs)) e
 
-  pub refused_stops : (f : Fault) → Err f ≡ answer_next s q → placed_next s q ≡ placed_until s (q ∷ qs)
-  refused_stops f e = ap (λ (a : Answer). placed_all (placed_next s q) (cond (is_ok a) (asked (placed_next s q) qs) [])) e
+  pub refused_stops : (f : Fault) → Err f ≡ place_answer s q → placed s q ≡ placed_until s (q ∷ qs)
+  refused_stops f e = ap (λ (a : Answer). placed_all (placed s q) (cond (is_ok a) (asked (placed s q) qs) [])) e
 
-  pub refused_fault : (f : Fault) → Err f ≡ answer_next s q → Some f ≡ first_refused s (q ∷ qs)
-  refused_fault f e = ap (λ (a : Answer). fault_else a (first_refused (placed_next s q) qs)) e
+  pub refused_fault : (f : Fault) → Err f ≡ place_answer s q → Some f ≡ first_refused s (q ∷ qs)
+  refused_fault f e = ap (λ (a : Answer). fault_else a (first_refused (placed s q) qs)) e
 
 module _ (a r c d a' r' c' d' : State) (arguments results : List Asked) where
   abbrev all : Placement

@@ -6,7 +6,7 @@ use Rattle.stage.specs.Lawful.{Lawful}
 use Rattle.allocation.specs.States.{State, opened}
 use Rattle.histories.specs.Histories.{History, placed_all, played}
 use Rattle.histories.specs.Laws.{LawfulAllocation}
-use Rattle.histories.specs.declared.asked.Asked.{Asked}
+use Rattle.allocation.specs.declared.asked.Asked.{Asked}
 use Rattle.histories.proofs.After.{lawful_after}
 use Rattle.histories.proofs.Rounds.{rounds_leave_nothing}
 use Rattle.call.specs.Placing.{first_refused, placing, Placement, Sides, sides_of}

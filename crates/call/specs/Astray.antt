@@ -8,7 +8,7 @@ use Rattle.stage.specs.declared.Stage.{Ghosts}
 use Rattle.allocation.specs.States.{State, opened}
 use Rattle.histories.specs.Histories.{History, history, played, grants_in}
 use Rattle.histories.specs.Laws.{HoldsWhatWasGranted, HoldsPlacesApart, WideEnough, AlignedAsRequested, PlacesAlways, Alike, EqualRequestsGetEqualAnswers}
-use Rattle.histories.specs.declared.asked.Asked.{Asked}
+use Rattle.allocation.specs.declared.asked.Asked.{Asked}
 use Rattle.machine.specs.Machine.{Contents, reg, running}
 use Rattle.machine.specs.declared.Instruction.{Instruction}
 use Rattle.machine.specs.declared.Outcome.TheVariants as Outcomes

@@ -5,16 +5,16 @@ use Rattle.stage.specs.declared.Stage.{Ghosts}
 use Rattle.allocation.specs.Faults.{Answer, placement_fault}
 use Rattle.allocation.specs.States.{State, state}
 use Rattle.allocation.specs.declared.faults.PlacementFault.{PlacementFault}
-use Rattle.allocation.specs.declared.frozen.Frozen.{Frozen}
-use Rattle.allocation.specs.declared.opened.Open.{Open}
-use Rattle.histories.specs.Histories.{answer_next, placed_next, placed_all}
-use Rattle.histories.specs.declared.asked.Asked.{Asked}
+use Rattle.allocation.specs.declared.shared.Allocation.{Allocation}
+use Rattle.allocation.specs.Rules.{place_answer, placed}
+use Rattle.histories.specs.Histories.{placed_all}
+use Rattle.allocation.specs.declared.asked.Asked.{Asked}
 use Rattle.call.specs.declared.sides.Side.{Side}
 
 -- the requests that are made of a list: up to the first that is refused, with it
 abbrev pub asked : State → List Asked → List Asked
 asked s [] = []
-asked s (q ∷ qs) = q ∷ cond (is_ok (answer_next s q)) (asked (placed_next s q) qs) []
+asked s (q ∷ qs) = q ∷ cond (is_ok (place_answer s q)) (asked (placed s q) qs) []
 
 -- what they make of an allocation
 abbrev pub placed_until : State → List Asked → State
@@ -28,7 +28,7 @@ fault_else (Err f) next = Some f
 -- the fault of the first that is refused
 abbrev pub first_refused : State → List Asked → Option Fault
 first_refused s [] = None
-first_refused s (q ∷ qs) = fault_else (answer_next s q) (first_refused (placed_next s q) qs)
+first_refused s (q ∷ qs) = fault_else (place_answer s q) (first_refused (placed s q) qs)
 
 -- the fault of an answer, if it is one
 abbrev pub placing_fault : {X : Type 0} → Result X PlacementFault → Option Fault
@@ -79,21 +79,21 @@ sides_of p = record {
 }
 
 -- those of bench and core while they are open, by the ghost members of their piles
-abbrev pub open_sides : {A B C D : Type 0} → Ghosts A → Ghosts B → Ghosts C → Ghosts D → Side (Open A) (Open B) → Side (Open C) (Open D) → Sides
+abbrev pub open_sides : {A B C D S : Type 0} → Ghosts A → Ghosts B → Ghosts C → Ghosts D → Side (Allocation A S) (Allocation B S) → Side (Allocation C S) (Allocation D S) → Sides
 open_sides a b c d bench core = record {
-  bench_arguments = state a bench.arguments.allocation;
-  bench_results = state b bench.results.allocation;
-  core_arguments = state c core.arguments.allocation;
-  core_results = state d core.results.allocation;
+  bench_arguments = state a bench.arguments;
+  bench_results = state b bench.results;
+  core_arguments = state c core.arguments;
+  core_results = state d core.results;
 }
 
 -- and once they are frozen
-abbrev pub frozen_sides : {A B C D : Type 0} → Ghosts A → Ghosts B → Ghosts C → Ghosts D → Side (Frozen A) (Frozen B) → Side (Frozen C) (Frozen D) → Sides
+abbrev pub frozen_sides : {A B C D S : Type 0} → Ghosts A → Ghosts B → Ghosts C → Ghosts D → Side (Allocation A S) (Allocation B S) → Side (Allocation C S) (Allocation D S) → Sides
 frozen_sides a b c d bench core = record {
-  bench_arguments = state a bench.arguments.allocation;
-  bench_results = state b bench.results.allocation;
-  core_arguments = state c core.arguments.allocation;
-  core_results = state d core.results.allocation;
+  bench_arguments = state a bench.arguments;
+  bench_results = state b bench.results;
+  core_arguments = state c core.arguments;
+  core_results = state d core.results;
 }
 
 -- four allocations and a fault that came of a placement

@@ -26,8 +26,8 @@ pub struct Called<A, B, C, D> {
 }
 
 fn freeze<P: Stage, Q: Stage>(side: Side<Open<P>, Open<Q>>) -> Side<Frozen<P>, Frozen<Q>>
-    ensures arguments_stay { state P.Stage result.arguments.allocation ≡ state P.Stage side.arguments.allocation }
-    ensures results_stay { state Q.Stage result.results.allocation ≡ state Q.Stage side.results.allocation }
+    ensures arguments_stay { state P.Stage result.arguments ≡ state P.Stage side.arguments }
+    ensures results_stay { state Q.Stage result.results ≡ state Q.Stage side.results }
 {
     Side {
         arguments: side.arguments.freeze(),

@@ -4,26 +4,26 @@ ghost use Rattle.allocation.specs.States.{state, opened};
 ghost use Rattle.call.specs.Placing.{placed_until, first_refused, placing_fault, placement, open_sides, ComesOf};
 
 use crate::sides::{Routine, Side, UsedPile};
+use allocation::asked::Asked;
 use allocation::faults::PlacementFault;
 use allocation::opened::Open;
-use histories::asked::Asked;
 use histories::plays::play;
 use stage::Stage;
 
 // Opens the pile, plays what came before, and reopens.
 pub(crate) fn reopened<P: Stage>(used: UsedPile<P>) -> Open<P>
-    ensures newly_opened { state P.Stage result.allocation ≡ opened (P.Stage.profile used.entry.pile) }
+    ensures newly_opened { state P.Stage result ≡ opened (P.Stage.profile used.entry.pile) }
 {
     play(used.pile, used.rounds, used.since).freeze().reopen()
 }
 
 // Places each in turn, up to the first that is refused.
 fn place_list<P: Stage>(allocation: &mut Open<P>, list: &[Asked]) -> Result<(), PlacementFault>
-    ensures asked_up_to_the_first_refused { state P.Stage allocation.new.allocation ≡ placed_until (state P.Stage allocation.old.allocation) list.now }
-    ensures fault_of_the_first_refused { placing_fault result ≡ first_refused (state P.Stage allocation.old.allocation) list.now }
+    ensures asked_up_to_the_first_refused { state P.Stage allocation.new ≡ placed_until (state P.Stage allocation.old) list.now }
+    ensures fault_of_the_first_refused { placing_fault result ≡ first_refused (state P.Stage allocation.old) list.now }
 {
     for asked in list {
-        allocation.place(asked.kind, asked.width, asked.alignment)?;
+        allocation.place(*asked)?;
     }
     Ok(())
 }

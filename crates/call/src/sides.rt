@@ -1,5 +1,5 @@
 // The two sides of a call, and the routine that is called.
-use histories::asked::Asked;
+use allocation::asked::Asked;
 use machine::Instruction;
 use place::registers::RegisterSet;
 

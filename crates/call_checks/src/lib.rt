@@ -3,11 +3,11 @@
 
 #[cfg(test)]
 mod tests {
+    use allocation::asked::Asked;
     use banks::count::Count;
     use call::calls::call;
     use call::ran::Ran;
     use call::sides::{Routine, Side, UsedPile};
-    use histories::asked::Asked;
     use machine::{Instruction, Outcome};
     use place::registers::RegisterSet;
     use stage::ParameterFault;

@@ -4,6 +4,7 @@
 #[cfg(test)]
 mod tests {
     use adjust::Adjust;
+    use allocation::asked::Asked;
     use allocation::frozen::Frozen;
     use allocation::opened::Open;
     use banks::bits::Bits;
@@ -23,9 +24,9 @@ mod tests {
     fn arguments() -> Result<Frozen<Adjust<Over<Bits, Up>>>, ParameterFault> {
         let pile = Over::new(Bits::new(&[0, 1])?, Up::new(8)?);
         let mut open = Open::new(Adjust::widen(4, pile)?);
-        let _ = open.place(Kind::Signed, 1, 1);
-        let _ = open.place(Kind::Unsigned, 2, 2);
-        let _ = open.place(Kind::Signed, 2, 2);
+        let _ = open.place(Asked::aligned(Kind::Signed, 1));
+        let _ = open.place(Asked::aligned(Kind::Unsigned, 2));
+        let _ = open.place(Asked::aligned(Kind::Signed, 2));
         Ok(open.freeze())
     }
 
@@ -33,7 +34,7 @@ mod tests {
     fn results(number: usize) -> Result<Frozen<Count>, ParameterFault> {
         let mut open = Open::new(Count::new(&[0, 2, 3, 4, 5])?);
         for _ in 0..number {
-            let _ = open.place(Kind::Unsigned, 4, 4);
+            let _ = open.place(Asked::aligned(Kind::Unsigned, 4));
         }
         Ok(open.freeze())
     }
@@ -41,7 +42,7 @@ mod tests {
     // A result of 4 bytes in the block.
     fn result_in_block() -> Result<Frozen<Up>, ParameterFault> {
         let mut open = Open::new(Up::new(8)?);
-        let _ = open.place(Kind::Unsigned, 4, 4);
+        let _ = open.place(Asked::aligned(Kind::Unsigned, 4));
         Ok(open.freeze())
     }
 

@@ -1,6 +1,7 @@
 // One call from bench to core: where its values travel, both codes, and what came of it.
 use crate::shown::{show_bytes, show_code, show_places};
 use adjust::Adjust;
+use allocation::asked::Asked;
 use allocation::frozen::Frozen;
 use allocation::held::Held;
 use anyhow::anyhow;
@@ -9,21 +10,11 @@ use blocks::up::Up;
 use call::calls::call;
 use call::ran::Ran;
 use call::sides::{Routine, Side, UsedPile};
-use histories::asked::Asked;
 use machine::{Instruction, Outcome, Width};
 use place::registers::RegisterSet;
 use sides::over::Over;
 use stage::{ParameterFault, Stage};
 use values::kinds::Kind;
-
-// A type at its own alignment.
-fn asked(kind: Kind, width: u8) -> Asked {
-    Asked {
-        kind,
-        width,
-        alignment: width,
-    }
-}
 
 fn fetch(d: u8, i: i16) -> Instruction {
     Instruction::Load {
@@ -73,9 +64,7 @@ fn homes() -> [u8; 256] {
     memory[137] = 0x03;
     memory[144] = 0xA8;
     memory[145] = 0xFD;
-    for i in 146..152 {
-        memory[i] = 0xFF;
-    }
+    memory[146..152].fill(0xFF);
     memory[152] = 40;
     memory
 }
@@ -125,9 +114,9 @@ fn show_side<P: Stage, Q: Stage>(
 // Bench and core have lived through unlike pasts; then one call goes across.
 pub(crate) fn show_crossing(rt: &HostRuntime) -> anyhow::Result<()> {
     let taken = [
-        asked(Kind::Float, 8),
-        asked(Kind::Unsigned, 3),
-        asked(Kind::Unsigned, 8),
+        Asked::aligned(Kind::Float, 8),
+        Asked::aligned(Kind::Unsigned, 3),
+        Asked::aligned(Kind::Unsigned, 8),
     ];
     let bench = Side {
         arguments: UsedPile {
@@ -145,7 +134,7 @@ pub(crate) fn show_crossing(rt: &HostRuntime) -> anyhow::Result<()> {
         arguments: UsedPile {
             pile: arguments()?,
             rounds: &[],
-            since: &[asked(Kind::Address, 4)],
+            since: &[Asked::aligned(Kind::Address, 4)],
         },
         results: UsedPile {
             pile: results()?,
@@ -155,12 +144,12 @@ pub(crate) fn show_crossing(rt: &HostRuntime) -> anyhow::Result<()> {
     };
     let routine = Routine {
         arguments: &[
-            asked(Kind::Signed, 1),
-            asked(Kind::Unsigned, 2),
-            asked(Kind::Signed, 8),
-            asked(Kind::Unsigned, 4),
+            Asked::aligned(Kind::Signed, 1),
+            Asked::aligned(Kind::Unsigned, 2),
+            Asked::aligned(Kind::Signed, 8),
+            Asked::aligned(Kind::Unsigned, 4),
         ],
-        results: &[asked(Kind::Signed, 4)],
+        results: &[Asked::aligned(Kind::Signed, 4)],
         kept: RegisterSet::EMPTY.with(4).with(5),
         body: &sum(),
     };

@@ -1,14 +1,10 @@
 // What is printed of places, records and homes.
 use allocation::held::Held;
 use machine::{Instruction, Width};
-use place::pieces::Place;
 
 pub(crate) fn show_places(rt: &HostRuntime, held: &[Held]) -> anyhow::Result<()> {
     for h in held {
-        match h.place {
-            Place::Single(low) => print!(rt; " {low};")?,
-            Place::Double(low, high) => print!(rt; " {low} {high};")?,
-        }
+        print!(rt; " {};", h.place)?;
     }
     Ok(())
 }

@@ -50,7 +50,7 @@ fn put_callee(
 
 // The bytes of the callee's homes.
 fn home_bytes<P: Stage, Q: Stage>(arguments: &Frozen<P>, results: &Frozen<Q>) -> u16
-    ensures eight_for_each_place { result ≡ home_bytes (length (state P.Stage arguments.now.allocation).held + length (state Q.Stage results.now.allocation).held) }
+    ensures eight_for_each_place { result ≡ home_bytes (length (state P.Stage arguments.now).held + length (state Q.Stage results.now).held) }
     ensures at_most_256 { result ≤ 256 }
 {
     8 * (arguments.held().len() + results.held().len()) as u16
@@ -74,8 +74,8 @@ fn count_callee<P: Stage, Q: Stage>(
     body: &[Instruction],
 ) -> (usize, u32)
     requires short { length body.now ≤ 256 }
-    ensures its_length { result.0 ≡ length (callee_code (state P.Stage arguments.now.allocation).held (state Q.Stage results.now.allocation).held kept.bits body.now) }
-    ensures its_stack_bytes { result.1 ≡ frame_bytes (state P.Stage arguments.now.allocation).held (state Q.Stage results.now.allocation).held (saved kept.bits body.now) }
+    ensures its_length { result.0 ≡ length (callee_code (state P.Stage arguments.now).held (state Q.Stage results.now).held kept.bits body.now) }
+    ensures its_stack_bytes { result.1 ≡ frame_bytes (state P.Stage arguments.now).held (state Q.Stage results.now).held (saved kept.bits body.now) }
     ensures at_most_65536 { result.1 ≤ 65536 }
 {
     let frame = frame_bytes(home_bytes(arguments, results), count_saved(kept, body));
@@ -94,10 +94,10 @@ fn write_callee<P: Stage, Q: Stage>(
     frame: u32,
 )
     requires short { length body.now ≤ 256 }
-    requires whole_frame { frame ≡ frame_bytes (state P.Stage arguments.now.allocation).held (state Q.Stage results.now.allocation).held (saved kept.bits body.now) }
+    requires whole_frame { frame ≡ frame_bytes (state P.Stage arguments.now).held (state Q.Stage results.now).held (saved kept.bits body.now) }
     requires near { frame ≤ 65536 }
-    requires fits { length (callee_code (state P.Stage arguments.now.allocation).held (state Q.Stage results.now.allocation).held kept.bits body.now) ≤ length code.old }
-    ensures at_the_front_and_the_rest_untouched { code.new ≡ (callee_code (state P.Stage arguments.now.allocation).held (state Q.Stage results.now.allocation).held kept.bits body.now) ++ drop (length (callee_code (state P.Stage arguments.now.allocation).held (state Q.Stage results.now.allocation).held kept.bits body.now)) code.old }
+    requires fits { length (callee_code (state P.Stage arguments.now).held (state Q.Stage results.now).held kept.bits body.now) ≤ length code.old }
+    ensures at_the_front_and_the_rest_untouched { code.new ≡ (callee_code (state P.Stage arguments.now).held (state Q.Stage results.now).held kept.bits body.now) ++ drop (length (callee_code (state P.Stage arguments.now).held (state Q.Stage results.now).held kept.bits body.now)) code.old }
 {
     let _ = put_callee(code, arguments.held(), results.held(), kept, body, frame);
 }
@@ -111,8 +111,8 @@ pub fn callee_size<P: Stage, Q: Stage>(
     body: &[Instruction],
     room: usize,
 ) -> Result<(usize, u32), CodeFault>
-    ensures lowest_number_first { fault_in result ≡ callee_fault (state P.Stage arguments.now.allocation) (state Q.Stage results.now.allocation) kept.bits body.now room }
-    ensures length_and_stack_bytes { IfOk result (λ x. (x.0 ≡ length (callee_code (state P.Stage arguments.now.allocation).held (state Q.Stage results.now.allocation).held kept.bits body.now)) × (x.1 ≡ frame_bytes (state P.Stage arguments.now.allocation).held (state Q.Stage results.now.allocation).held (saved kept.bits body.now))) }
+    ensures lowest_number_first { fault_in result ≡ callee_fault (state P.Stage arguments.now) (state Q.Stage results.now) kept.bits body.now room }
+    ensures length_and_stack_bytes { IfOk result (λ x. (x.0 ≡ length (callee_code (state P.Stage arguments.now).held (state Q.Stage results.now).held kept.bits body.now)) × (x.1 ≡ frame_bytes (state P.Stage arguments.now).held (state Q.Stage results.now).held (saved kept.bits body.now))) }
     ensures within_the_room { IfOk result (λ x. x.0 ≤ room) }
     ensures at_most_65536_stack_bytes { IfOk result (λ x. x.1 ≤ 65536) }
     ensures body_of_at_most_256_instructions { OnOk result (length body.now ≤ 256) }
@@ -132,8 +132,8 @@ pub fn callee_code<P: Stage, Q: Stage>(
     body: &[Instruction],
     code: &mut [Instruction],
 ) -> Result<(usize, u32), CodeFault>
-    ensures lowest_number_first { fault_in result ≡ callee_fault (state P.Stage arguments.now.allocation) (state Q.Stage results.now.allocation) kept.bits body.now (length code.old) }
-    ensures code_at_the_front_and_the_rest_untouched { Coded (callee_code (state P.Stage arguments.now.allocation).held (state Q.Stage results.now.allocation).held kept.bits body.now) (frame_bytes (state P.Stage arguments.now.allocation).held (state Q.Stage results.now.allocation).held (saved kept.bits body.now)) code.old code.new result }
+    ensures lowest_number_first { fault_in result ≡ callee_fault (state P.Stage arguments.now) (state Q.Stage results.now) kept.bits body.now (length code.old) }
+    ensures code_at_the_front_and_the_rest_untouched { Coded (callee_code (state P.Stage arguments.now).held (state Q.Stage results.now).held kept.bits body.now) (frame_bytes (state P.Stage arguments.now).held (state Q.Stage results.now).held (saved kept.bits body.now)) code.old code.new result }
 {
     let (length, frame) = callee_size(arguments, results, kept, body, code.len())?;
     write_callee(code, arguments, results, kept, body, frame);

@@ -35,7 +35,7 @@ fn put_caller(code: &mut [Instruction], arguments: &[Held], results: &[Held], bl
 
 // The stack bytes that the arguments' block takes.
 fn block_bytes<P: Stage>(arguments: &Frozen<P>) -> u32
-    ensures reach_rounded_up_to_eight { result ≡ block_bytes (state P.Stage arguments.now.allocation) }
+    ensures reach_rounded_up_to_eight { result ≡ block_bytes (state P.Stage arguments.now) }
     ensures at_most_65536 { result ≤ 65536 }
 {
     Size::Eight.round_up(arguments.reach())
@@ -43,8 +43,8 @@ fn block_bytes<P: Stage>(arguments: &Frozen<P>) -> u32
 
 // How many records the caller's code has, and the stack bytes that it takes.
 fn count_caller<P: Stage, Q: Stage>(arguments: &Frozen<P>, results: &Frozen<Q>) -> (usize, u32)
-    ensures its_length { result.0 ≡ length (caller_code (state P.Stage arguments.now.allocation).held (state Q.Stage results.now.allocation).held (block_bytes (state P.Stage arguments.now.allocation))) }
-    ensures its_stack_bytes { result.1 ≡ block_bytes (state P.Stage arguments.now.allocation) }
+    ensures its_length { result.0 ≡ length (caller_code (state P.Stage arguments.now).held (state Q.Stage results.now).held (block_bytes (state P.Stage arguments.now))) }
+    ensures its_stack_bytes { result.1 ≡ block_bytes (state P.Stage arguments.now) }
     ensures at_most_65536 { result.1 ≤ 65536 }
 {
     let block = block_bytes(arguments);
@@ -60,10 +60,10 @@ fn write_caller<P: Stage, Q: Stage>(
     results: &Frozen<Q>,
     block: u32,
 )
-    requires block_of_the_arguments { block ≡ block_bytes (state P.Stage arguments.now.allocation) }
+    requires block_of_the_arguments { block ≡ block_bytes (state P.Stage arguments.now) }
     requires near { block ≤ 65536 }
-    requires fits { length (caller_code (state P.Stage arguments.now.allocation).held (state Q.Stage results.now.allocation).held (block_bytes (state P.Stage arguments.now.allocation))) ≤ length code.old }
-    ensures at_the_front_and_the_rest_untouched { code.new ≡ (caller_code (state P.Stage arguments.now.allocation).held (state Q.Stage results.now.allocation).held (block_bytes (state P.Stage arguments.now.allocation))) ++ drop (length (caller_code (state P.Stage arguments.now.allocation).held (state Q.Stage results.now.allocation).held (block_bytes (state P.Stage arguments.now.allocation)))) code.old }
+    requires fits { length (caller_code (state P.Stage arguments.now).held (state Q.Stage results.now).held (block_bytes (state P.Stage arguments.now))) ≤ length code.old }
+    ensures at_the_front_and_the_rest_untouched { code.new ≡ (caller_code (state P.Stage arguments.now).held (state Q.Stage results.now).held (block_bytes (state P.Stage arguments.now))) ++ drop (length (caller_code (state P.Stage arguments.now).held (state Q.Stage results.now).held (block_bytes (state P.Stage arguments.now)))) code.old }
 {
     let _ = put_caller(code, arguments.held(), results.held(), block);
 }
@@ -76,8 +76,8 @@ pub fn caller_size<P: Stage, Q: Stage>(
     kept: RegisterSet,
     room: usize,
 ) -> Result<(usize, u32), CodeFault>
-    ensures lowest_number_first { fault_in result ≡ caller_fault (state P.Stage arguments.now.allocation) (state Q.Stage results.now.allocation) kept.bits room }
-    ensures length_and_stack_bytes { IfOk result (λ x. (x.0 ≡ length (caller_code (state P.Stage arguments.now.allocation).held (state Q.Stage results.now.allocation).held (block_bytes (state P.Stage arguments.now.allocation)))) × (x.1 ≡ block_bytes (state P.Stage arguments.now.allocation))) }
+    ensures lowest_number_first { fault_in result ≡ caller_fault (state P.Stage arguments.now) (state Q.Stage results.now) kept.bits room }
+    ensures length_and_stack_bytes { IfOk result (λ x. (x.0 ≡ length (caller_code (state P.Stage arguments.now).held (state Q.Stage results.now).held (block_bytes (state P.Stage arguments.now)))) × (x.1 ≡ block_bytes (state P.Stage arguments.now))) }
     ensures within_the_room { IfOk result (λ x. x.0 ≤ room) }
     ensures at_most_65536_stack_bytes { IfOk result (λ x. x.1 ≤ 65536) }
 {
@@ -94,8 +94,8 @@ pub fn caller_code<P: Stage, Q: Stage>(
     kept: RegisterSet,
     code: &mut [Instruction],
 ) -> Result<(usize, u32), CodeFault>
-    ensures lowest_number_first { fault_in result ≡ caller_fault (state P.Stage arguments.now.allocation) (state Q.Stage results.now.allocation) kept.bits (length code.old) }
-    ensures code_at_the_front_and_the_rest_untouched { Coded (caller_code (state P.Stage arguments.now.allocation).held (state Q.Stage results.now.allocation).held (block_bytes (state P.Stage arguments.now.allocation))) (block_bytes (state P.Stage arguments.now.allocation)) code.old code.new result }
+    ensures lowest_number_first { fault_in result ≡ caller_fault (state P.Stage arguments.now) (state Q.Stage results.now) kept.bits (length code.old) }
+    ensures code_at_the_front_and_the_rest_untouched { Coded (caller_code (state P.Stage arguments.now).held (state Q.Stage results.now).held (block_bytes (state P.Stage arguments.now))) (block_bytes (state P.Stage arguments.now)) code.old code.new result }
 {
     let (length, block) = caller_size(arguments, results, kept, code.len())?;
     write_caller(code, arguments, results, block);

@@ -61,7 +61,7 @@ pub(crate) fn check_places<P: Stage, Q: Stage>(
     results: &Frozen<Q>,
     kept: RegisterSet,
 ) -> Result<(), CodeFault>
-    ensures lowest_number_first { fault_in result ≡ places_fault (state P.Stage arguments.now.allocation) (state Q.Stage results.now.allocation) kept.bits }
+    ensures lowest_number_first { fault_in result ≡ places_fault (state P.Stage arguments.now) (state Q.Stage results.now) kept.bits }
 {
     if kept_clashes(kept, arguments.registers(), results.registers()) {
         return Err(CodeFault::Kept);

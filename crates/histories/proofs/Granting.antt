@@ -17,10 +17,10 @@ use Rattle.stage.specs.Lawful.{Lawful}
 use Rattle.allocation.proofs.Numbers.{that_size}
 use Rattle.place.specs.Holdings.{Holding}
 use Rattle.allocation.specs.States.{State, opened, always_placed}
-use Rattle.allocation.specs.Rules.{request_in, request_of, reaching_with, reaching, answer_for, pile_answer, holding_for, placed_by, place_answer}
-use Rattle.histories.specs.Histories.{Grant, grant, as_held, grant_by, grants, placed_next, placed_all}
-use Rattle.histories.specs.Laws.{EachApart, WideEnough, AlignedAsRequested, RefusedOnlyWhenFull}
-use Rattle.histories.specs.declared.asked.Asked.{Asked}
+use Rattle.allocation.specs.Rules.{request_in, request_of, reaching_with, reaching, answer_for, pile_answer, holding_for, placed_by, place_answer, placed}
+use Rattle.histories.specs.Histories.{Grant, grant, as_held, grant_by, grants, placed_all}
+use Rattle.histories.specs.Laws.{asked_for, EachApart, WideEnough, AlignedAsRequested, RefusedOnlyWhenFull}
+use Rattle.allocation.specs.declared.asked.Asked.{Asked}
 
 -- what is known of a request that reached the pile
 pub record Reached (held : ℕ) (sound : Bool) : Type 0 where
@@ -53,8 +53,8 @@ module _ (Inv : State → Type 0) (keeps : (s : State) (t : Result Request ℕ) 
   pub each_grant : (qs : List Asked) (s : State) → Inv s → AllByRecursion P (grants s qs)
   each_grant [] s i = tt
   each_grant (q ∷ qs) s i =
-      let t = reaching s q.kind q.width q.alignment in
-      All-append P (grant_by s t) _ (each_by s i t) (each_grant qs (placed_next s q) (keeps s t i))
+      let t = reaching s q in
+      All-append P (grant_by s t) _ (each_by s i t) (each_grant qs (placed s q) (keeps s t i))
 
 -- no place that is ever granted shares a byte with p
 spares_by : (p : Place) (s : State) (t : Result Request ℕ) → Spares p s.book → Spares p (placed_by s t).book
@@ -82,7 +82,7 @@ module _ (p : Profile) where
 
   pub good_all : (qs : List Asked) (s : State) → Good s → Good (placed_all s qs)
   good_all [] s h = h
-  good_all (q ∷ qs) s h = good_all qs (placed_next s q) (good_by s (reaching s q.kind q.width q.alignment) h)
+  good_all (q ∷ qs) s h = good_all qs (placed s q) (good_by s (reaching s q) h)
 
   pub wide : (qs : List Asked) (s : State) → Good s → AllByRecursion WideEnough (grants s qs)
   wide = each_grant Good good_by WideEnough (λ s r z h e. ((h.1 []).places_are_granted_lawfully r z e).is_as_wide_as_requested_or_wider)
@@ -107,7 +107,7 @@ module _ (p : Profile) where
 
   pub apart : (qs : List Asked) (s : State) → Good s → ApartAfter s qs
   apart [] s h = tt
-  apart (q ∷ qs) s h = apart_by s qs (request_of q.kind q.width q.alignment) h (apart qs) (reaching s q.kind q.width q.alignment) refl
+  apart (q ∷ qs) s h = apart_by s qs (request_of q) h (apart qs) (reaching s q) refl
 
 -- what is held was granted
 held_of : (xs : List Holding) (r : Request) (o : Option Place) → xs ++ option_to_list (option_map (holding_for r) o) ≡ xs ++ map as_held (option_to_list (option_map (grant r) o))
@@ -121,9 +121,9 @@ held_by s (Err n) = sym (append-nil s.held)
 pub held_grants : (qs : List Asked) (s : State) → (placed_all s qs).held ≡ s.held ++ map as_held (grants s qs)
 held_grants [] s = sym (append-nil s.held)
 held_grants (q ∷ qs) s =
-    let t = reaching s q.kind q.width q.alignment in
-    let rest = map as_held (grants (placed_next s q) qs) in
-    held_grants qs (placed_next s q) ∙ ap (λ xs. xs ++ rest) (held_by s t) ∙ append_assoc s.held (map as_held (grant_by s t)) rest ∙ ap (λ xs. s.held ++ xs) (sym (map-append as_held (grant_by s t) (grants (placed_next s q) qs)))
+    let t = reaching s q in
+    let rest = map as_held (grants (placed s q) qs) in
+    held_grants qs (placed s q) ∙ ap (λ xs. xs ++ rest) (held_by s t) ∙ append_assoc s.held (map as_held (grant_by s t)) rest ∙ ap (λ xs. s.held ++ xs) (sym (map-append as_held (grant_by s t) (grants (placed s q) qs)))
 
 -- at most sixteen are held
 few_of : (xs : List Holding) (r : Request) (o : Option Place) → length xs < 16 → length (xs ++ option_to_list (option_map (holding_for r) o)) ≤ 16
@@ -136,10 +136,10 @@ few_by s o l (Err n) e = l
 
 pub few : (qs : List Asked) (s : State) → length s.held ≤ 16 → length (placed_all s qs).held ≤ 16
 few [] s l = l
-few (q ∷ qs) s l = few qs (placed_next s q) (few_by s (request_of q.kind q.width q.alignment) l (reaching s q.kind q.width q.alignment) refl)
+few (q ∷ qs) s l = few qs (placed s q) (few_by s (request_of q) l (reaching s q) refl)
 
 -- a type at its own alignment is a request
-own_request_lem : (t : ValueType) → request_of t.kind (bytes t.width) (bytes t.width) ≡ Some (own_request t)
+own_request_lem : (t : ValueType) → request_of (asked_for t) ≡ Some (own_request t)
 own_request_lem t =
     ap (λ o. request_in t.kind o o) (that_size t.width) ∙ ap (λ b. cond b (Some (own_request t)) None) t.one_of_the_eleven
 
@@ -151,7 +151,7 @@ unanswered s None e = refl
 unanswered s (Some p) e = e
 
 module _ (p : Profile) (s : State) (good : Good p s) (at_most : length s.held ≤ 16) (t : ValueType) (always : always_placed p.questions t ≡ true) where
-  refused_with_room : length s.held < 16 → is_ok (place_answer s t.kind (bytes t.width) (bytes t.width)) ≡ false → 4088 < used s.book
+  refused_with_room : length s.held < 16 → is_ok (place_answer s (asked_for t)) ≡ false → 4088 < used s.book
   refused_with_room room refused =
       let parts = and_parts p.questions.sound (p.questions.endless (own_request t)) always in
       let sound = ap (λ (x : Profile). x.questions.sound) good.0 ∙ parts.0 in

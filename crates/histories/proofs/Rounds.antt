@@ -3,9 +3,9 @@ use Rattle.std.proofs.Common.{◌≡◌, ℕ, List, [], ◌∷◌, Ok, Err, Resu
 use Rattle.values.specs.declared.requests.Request.{Request}
 use Rattle.stage.specs.Books.{Profile}
 use Rattle.allocation.specs.States.{State, opened}
-use Rattle.allocation.specs.Rules.{placed_by, reaching}
-use Rattle.histories.specs.Histories.{placed_next, placed_all, played_rounds}
-use Rattle.histories.specs.declared.asked.Asked.{Asked}
+use Rattle.allocation.specs.Rules.{placed_by, reaching, placed}
+use Rattle.histories.specs.Histories.{placed_all, played_rounds}
+use Rattle.allocation.specs.declared.asked.Asked.{Asked}
 
 pub profile_by : (s : State) (t : Result Request ℕ) → (placed_by s t).profile ≡ s.profile
 profile_by s (Ok r) = refl
@@ -13,7 +13,7 @@ profile_by s (Err n) = refl
 
 pub profile_stays : (qs : List Asked) (s : State) → (placed_all s qs).profile ≡ s.profile
 profile_stays [] s = refl
-profile_stays (q ∷ qs) s = profile_stays qs (placed_next s q) ∙ profile_by s (reaching s q.kind q.width q.alignment)
+profile_stays (q ∷ qs) s = profile_stays qs (placed s q) ∙ profile_by s (reaching s q)
 
 pub rounds_leave_nothing : (rs : List (List Asked)) (p : Profile) → played_rounds (opened p) rs ≡ opened p
 rounds_leave_nothing [] p = refl

@@ -3,8 +3,9 @@ use Rattle.std.proofs.Common.{◌≡◌, ℕ, ◌+◌, ◌<◌, List, ◌∷◌,
 use Rattle.std.proofs.lemmas.List.{at_drop_more}
 use Rattle.allocation.specs.Faults.{Answer}
 use Rattle.allocation.specs.States.{State}
-use Rattle.histories.specs.Histories.{placed_next, answer_next, answers}
-use Rattle.histories.specs.declared.asked.Asked.{Asked}
+use Rattle.allocation.specs.Rules.{placed, place_answer}
+use Rattle.histories.specs.Histories.{answers}
+use Rattle.allocation.specs.declared.asked.Asked.{Asked}
 
 first_of : (x y : Answer) (xs ys : List Answer) → x ∷ xs ≡ y ∷ ys → x ≡ y
 first_of x y xs ys e = cc
@@ -14,28 +15,28 @@ others_of x y xs ys e = cc
 
 module _ (a b : State) (qs : List Asked) (i : ℕ) (d : Asked) (l : i < length qs) where
   abbrev next : State → State
-  next s = placed_next s (get_or qs i d)
+  next s = placed s (get_or qs i d)
 
   abbrev rest : List Asked
   rest = drop (i + 1) qs
 
   abbrev from : State → List Answer
-  from s = answer_next s (get_or qs i d) ∷ answers (next s) rest
+  from s = place_answer s (get_or qs i d) ∷ answers (next s) rest
 
   taken : answers a (drop i qs) ≡ answers b (drop i qs) → from a ≡ from b
   taken e = sym (at_drop_more (answers a) qs i d l) ∙ e ∙ at_drop_more (answers b) qs i d l
 
-  pub same_now : answers a (drop i qs) ≡ answers b (drop i qs) → answer_next a (get_or qs i d) ≡ answer_next b (get_or qs i d)
+  pub same_now : answers a (drop i qs) ≡ answers b (drop i qs) → place_answer a (get_or qs i d) ≡ place_answer b (get_or qs i d)
   same_now e = first_of _ _ (answers (next a) rest) (answers (next b) rest) (taken e)
 
   module _ (x y : State) (at_a : x ≡ next a) (at_b : y ≡ next b) where
     pub same_later : answers a (drop i qs) ≡ answers b (drop i qs) → answers x rest ≡ answers y rest
     same_later e =
-        ap (λ s. answers s rest) at_a ∙ others_of (answer_next a (get_or qs i d)) (answer_next b (get_or qs i d)) _ _ (taken e) ∙ sym (ap (λ s. answers s rest) at_b)
+        ap (λ s. answers s rest) at_a ∙ others_of (place_answer a (get_or qs i d)) (place_answer b (get_or qs i d)) _ _ (taken e) ∙ sym (ap (λ s. answers s rest) at_b)
 
-    pub same_all : answer_next a (get_or qs i d) ≡ answer_next b (get_or qs i d) → answers x rest ≡ answers y rest → answers a (drop i qs) ≡ answers b (drop i qs)
+    pub same_all : place_answer a (get_or qs i d) ≡ place_answer b (get_or qs i d) → answers x rest ≡ answers y rest → answers a (drop i qs) ≡ answers b (drop i qs)
     same_all e f =
         at_drop_more (answers a) qs i d l
         ∙ ap (λ u. u ∷ answers (next a) rest) e
-        ∙ ap (λ us. answer_next b (get_or qs i d) ∷ us) (sym (ap (λ s. answers s rest) at_a) ∙ f ∙ ap (λ s. answers s rest) at_b)
+        ∙ ap (λ us. place_answer b (get_or qs i d) ∷ us) (sym (ap (λ s. answers s rest) at_a) ∙ f ∙ ap (λ s. answers s rest) at_b)
         ∙ sym (at_drop_more (answers b) qs i d l)

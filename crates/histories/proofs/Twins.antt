@@ -6,11 +6,11 @@ use Rattle.place.specs.declared.pieces.Place.{Place}
 use Rattle.stage.specs.Books.{Book, Profile, Questions, said, after}
 use Rattle.place.specs.Holdings.{Holding}
 use Rattle.allocation.specs.States.{State, opened}
-use Rattle.allocation.specs.Rules.{request_of, reaching_with, reaching, answer_for, pile_answer, holding_for, placed_by}
+use Rattle.allocation.specs.Rules.{request_of, reaching_with, reaching, answer_for, pile_answer, holding_for, placed_by, placed, place_answer}
 use Rattle.histories.proofs.Rounds.{rounds_leave_nothing}
-use Rattle.histories.specs.Histories.{placed_next, placed_all, answer_next, answers}
+use Rattle.histories.specs.Histories.{placed_all, answers}
 use Rattle.histories.specs.Laws.{Alike, EqualRequestsGetEqualAnswers}
-use Rattle.histories.specs.declared.asked.Asked.{Asked}
+use Rattle.allocation.specs.declared.asked.Asked.{Asked}
 
 pub record Twins (s z : State) : Type 0 where
   pub sound : s.profile.questions.sound ≡ z.profile.questions.sound
@@ -40,19 +40,19 @@ module _ (s z : State) (w : Twins s z) where
 pub answers_alike : (qs : List Asked) (s z : State) → Twins s z → answers s qs ≡ answers z qs
 answers_alike [] s z w = refl
 answers_alike (q ∷ qs) s z w =
-    let t = reaching s q.kind q.width q.alignment in
-    let same = reach_alike s z w (request_of q.kind q.width q.alignment) in
+    let t = reaching s q in
+    let same = reach_alike s z w (request_of q) in
     let head = answer_alike s z w t ∙ ap (answer_for z) same in
     let next = subst (λ x. Twins (placed_by s t) (placed_by z x)) same (twins_by s z w t) in
-    ap (λ a. a ∷ answers (placed_next s q) qs) head ∙ ap (λ xs. answer_next z q ∷ xs) (answers_alike qs (placed_next s q) (placed_next z q) next)
+    ap (λ a. a ∷ answers (placed s q) qs) head ∙ ap (λ xs. place_answer z q ∷ xs) (answers_alike qs (placed s q) (placed z q) next)
 
 -- and so they stay, whatever both are asked
 pub twins_all : (qs : List Asked) (s z : State) → Twins s z → Twins (placed_all s qs) (placed_all z qs)
 twins_all [] s z w = w
 twins_all (q ∷ qs) s z w =
-    let t = reaching s q.kind q.width q.alignment in
-    let same = reach_alike s z w (request_of q.kind q.width q.alignment) in
-    twins_all qs (placed_next s q) (placed_next z q) (subst (λ x. Twins (placed_by s t) (placed_by z x)) same (twins_by s z w t))
+    let t = reaching s q in
+    let same = reach_alike s z w (request_of q) in
+    twins_all qs (placed s q) (placed z q) (subst (λ x. Twins (placed_by s t) (placed_by z x)) same (twins_by s z w t))
 
 pub newly_twins : (p q : Profile) → Alike p q → Twins (opened p) (opened q)
 newly_twins p q alike = record {

@@ -9,7 +9,7 @@ use Rattle.allocation.specs.Faults.{Answer}
 use Rattle.place.specs.Holdings.{Holding}
 use Rattle.allocation.specs.States.{State, opened}
 use Rattle.allocation.specs.Rules.{reaching, placed, place_answer, holding_for}
-use Rattle.histories.specs.declared.asked.Asked.{Asked}
+use Rattle.allocation.specs.declared.asked.Asked.{Asked}
 
 -- rounds of placing, each frozen and reopened, and the requests since
 pub record History : Type 0 where
@@ -20,23 +20,15 @@ pub record History : Type 0 where
 abbrev pub history : List (Bor (List Asked)) → List Asked → History
 history rounds since = record { rounds = map (λ r. r.now) rounds; since = since }
 
--- what one request makes of an allocation
-abbrev pub placed_next : State → Asked → State
-placed_next s q = placed s q.kind q.width q.alignment
-
--- what it is answered
-abbrev pub answer_next : State → Asked → Answer
-answer_next s q = place_answer s q.kind q.width q.alignment
-
 -- what requests make of an allocation, one after the other
 abbrev pub placed_all : State → List Asked → State
 placed_all s [] = s
-placed_all s (q ∷ qs) = placed_all (placed_next s q) qs
+placed_all s (q ∷ qs) = placed_all (placed s q) qs
 
 -- what they are answered
 abbrev pub answers : State → List Asked → List Answer
 answers s [] = []
-answers s (q ∷ qs) = answer_next s q ∷ answers (placed_next s q) qs
+answers s (q ∷ qs) = place_answer s q ∷ answers (placed s q) qs
 
 -- what rounds make of an allocation: each is frozen and reopened
 abbrev pub played_rounds : State → List (List Asked) → State
@@ -76,7 +68,7 @@ grant_by s (Ok r) = option_to_list (option_map (grant r) (said s.book r))
 -- what requests are granted, in order
 abbrev pub grants : State → List Asked → List Grant
 grants s [] = []
-grants s (q ∷ qs) = grant_by s (reaching s q.kind q.width q.alignment) ++ grants (placed_next s q) qs
+grants s (q ∷ qs) = grant_by s (reaching s q) ++ grants (placed s q) qs
 
 -- what a pile granted since it was opened or last reopened, in a history
 abbrev pub grants_in : Profile → History → List Grant

@@ -10,7 +10,7 @@ use Rattle.stage.specs.Lawful.{Aligned}
 use Rattle.allocation.specs.States.{State, opened, always_placed}
 use Rattle.allocation.specs.Rules.{place_answer}
 use Rattle.histories.specs.Histories.{History, Grant, placed_all, answers, played_rounds, reopened, grants, grants_in, as_held}
-use Rattle.histories.specs.declared.asked.Asked.{Asked}
+use Rattle.allocation.specs.declared.asked.Asked.{Asked}
 
 -- no two of the places share a byte
 abbrev pub EachApart : List Place → Type 0
@@ -25,9 +25,13 @@ WideEnough g = bytes g.request.width ≤ place_width g.place
 abbrev pub AlignedAsRequested : Grant → Type 0
 AlignedAsRequested g = Aligned (bytes g.request.alignment) (low_piece g.place)
 
+-- a type as it is asked for at its own alignment
+abbrev pub asked_for : ValueType → Asked
+asked_for t = record { kind = t.kind; width = bytes t.width; alignment = bytes t.width }
+
 -- a type at its own alignment is refused only past 4,088 block bytes or at sixteen places
 abbrev pub RefusedOnlyWhenFull : State → ValueType → Type 0
-RefusedOnlyWhenFull s t = is_ok (place_answer s t.kind (bytes t.width) (bytes t.width)) ≡ false → (4088 < used s.book) ⊎ (length s.held ≡ 16)
+RefusedOnlyWhenFull s t = is_ok (place_answer s (asked_for t)) ≡ false → (4088 < used s.book) ⊎ (length s.held ≡ 16)
 
 -- an allocation holds what it was granted since, in order
 abbrev pub HoldsWhatWasGranted : Profile → History → State → Type 0

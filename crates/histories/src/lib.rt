@@ -1,5 +1,4 @@
 // Histories of allocations: rounds of placing, each frozen and reopened, and the requests since.
 #![tactic(auto)]
 
-pub mod asked;
 pub mod plays;

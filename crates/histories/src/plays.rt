@@ -1,29 +1,27 @@
 // Histories, played.
 ghost use Rattle.std.specs.Prelude.{◌≡◌, true, Decides};
-ghost use Rattle.allocation.specs.Faults.{answer_of};
 ghost use Rattle.allocation.specs.States.{state};
 ghost use Rattle.histories.specs.Histories.{History, placed_all, history, played, answers_in};
 ghost use Rattle.histories.specs.Laws.{LawfulAllocation, Alike, EqualRequestsGetEqualAnswers};
 
-use crate::asked::Asked;
-use allocation::faults::PlacementFault;
+use allocation::answers::same_answer;
+use allocation::asked::Asked;
 use allocation::opened::Open;
-use place::pieces::Place;
 use stage::Stage;
 
 // Places each in turn, whatever the answers.
 fn place_each<P: Stage>(allocation: &mut Open<P>, since: &[Asked])
-    ensures placed_in_turn { state P.Stage allocation.new.allocation ≡ placed_all (state P.Stage allocation.old.allocation) since.now }
+    ensures placed_in_turn { state P.Stage allocation.new ≡ placed_all (state P.Stage allocation.old) since.now }
 {
     for asked in since {
-        let _ = allocation.place(asked.kind, asked.width, asked.alignment);
+        let _ = allocation.place(*asked);
     }
 }
 
 // Opens the pile; places, freezes and reopens, round by round; then places what came since.
 pub fn play<P: Stage>(pile: P, rounds: &[&[Asked]], since: &[Asked]) -> Open<P>
-    ensures plays_the_history { state P.Stage result.allocation ≡ played (P.Stage.profile pile) (history rounds.now since.now) }
-    ensures lawful_after_this_history { LawfulAllocation (P.Stage.profile pile) (history rounds.now since.now) (state P.Stage result.allocation) }
+    ensures plays_the_history { state P.Stage result ≡ played (P.Stage.profile pile) (history rounds.now since.now) }
+    ensures lawful_after_this_history { LawfulAllocation (P.Stage.profile pile) (history rounds.now since.now) (state P.Stage result) }
     ensures lawful_after_every_history { (h : History) → LawfulAllocation (P.Stage.profile pile) h (played (P.Stage.profile pile) h) }
 {
     let mut allocation = Open::new(pile);
@@ -33,12 +31,6 @@ pub fn play<P: Stage>(pile: P, rounds: &[&[Asked]], since: &[Asked]) -> Open<P>
     }
     place_each(&mut allocation, since);
     allocation
-}
-
-fn same_answer(a: Result<Place, PlacementFault>, b: Result<Place, PlacementFault>) -> bool
-    ensures by_place_or_by_number_and_position { Decides result (answer_of a ≡ answer_of b) }
-{
-    a == b
 }
 
 // Whether two piles that went through rounds of their own answer what comes since alike.
@@ -56,8 +48,8 @@ pub fn place_alike<P: Stage + Drop, Q: Stage + Drop>(
     let mut one = play(first, first_rounds, &[]);
     let mut other = play(second, second_rounds, &[]);
     for asked in since {
-        let answer = one.place(asked.kind, asked.width, asked.alignment);
-        let counterpart = other.place(asked.kind, asked.width, asked.alignment);
+        let answer = one.place(*asked);
+        let counterpart = other.place(*asked);
         if !same_answer(answer, counterpart) {
             return false;
         }

@@ -10,13 +10,13 @@ use Rattle.place.specs.declared.pieces.Place.{Place}
 use Rattle.stage.proofs.Runs.{lifted}
 use Rattle.stage.specs.Books.{Profile, said, used, after}
 use Rattle.stage.specs.Lawful.{InSet, Below, Granted, Lawful}
-use Rattle.allocation.specs.Rules.{placed_by, reaching}
+use Rattle.allocation.specs.Rules.{placed_by, reaching, placed}
 use Rattle.allocation.specs.States.{State, opened}
 use Rattle.histories.proofs.After.{lawful_after}
 use Rattle.histories.proofs.Granting.{Good, newly_good, good_all, held_grants, few}
-use Rattle.histories.specs.Histories.{Grant, grant, as_held, grant_by, grants, placed_next, placed_all}
+use Rattle.histories.specs.Histories.{Grant, grant, as_held, grant_by, grants, placed_all}
 use Rattle.histories.specs.Laws.{EachApart}
-use Rattle.histories.specs.declared.asked.Asked.{Asked}
+use Rattle.allocation.specs.declared.asked.Asked.{Asked}
 use Rattle.delivery.specs.Delivering.{Fits, AllApart, AllPieces}
 
 pub held_few : (p : Profile) (qs : List Asked) → length (placed_all (opened p) qs).held ≤ 16
@@ -28,14 +28,14 @@ module _ (p : Profile) where
   used_by s (Ok r) h = (h.1 []).reach_never_falls r
   used_by s (Err n) h = omega arith
 
-  next_good : (q : Asked) (s : State) → Good p s → Good p (placed_next s q)
+  next_good : (q : Asked) (s : State) → Good p s → Good p (placed s q)
   next_good q s h = good_all p (q ∷ []) s h
 
   used_all : (qs : List Asked) (s : State) → Good p s → used s.book ≤ used (placed_all s qs).book
   used_all [] s h = omega arith
   used_all (q ∷ qs) s h =
-      let one = used_by s (reaching s q.kind q.width q.alignment) h in
-      let rest = used_all qs (placed_next s q) (next_good q s h) in
+      let one = used_by s (reaching s q) h in
+      let rest = used_all qs (placed s q) (next_good q s h) in
       omega arith
 
   -- so a lawful grant is one too where more is used
@@ -56,11 +56,11 @@ module _ (p : Profile) where
   granted_all : (qs : List Asked) (s : State) → Good p s → AllByRecursion (GrantedBy (used (placed_all s qs).book)) (grants s qs)
   granted_all [] s h = tt
   granted_all (q ∷ qs) s h =
-      let t : Result Request ℕ = reaching s q.kind q.width q.alignment in
+      let t : Result Request ℕ = reaching s q in
       let good = next_good q s h in
-      let n : ℕ = used (placed_all (placed_next s q) qs).book in
-      let first = All-weaker (GrantedBy (used (placed_by s t).book)) (GrantedBy n) (granted_more (used (placed_by s t).book) n (used_all qs (placed_next s q) good)) (grant_by s t) (granted_by s t h) in
-      All-append (GrantedBy n) (grant_by s t) (grants (placed_next s q) qs) first (granted_all qs (placed_next s q) good)
+      let n : ℕ = used (placed_all (placed s q) qs).book in
+      let first = All-weaker (GrantedBy (used (placed_by s t).book)) (GrantedBy n) (granted_more (used (placed_by s t).book) n (used_all qs (placed s q) good)) (grant_by s t) (granted_by s t h) in
+      All-append (GrantedBy n) (grant_by s t) (grants (placed s q) qs) first (granted_all qs (placed s q) good)
 
 -- places that are apart, as they are held
 all_places : (P : Place → Type 0) (hs : List Holding) → AllByRecursion P (map (λ x. x.place) hs) → AllByRecursion (λ h. P h.place) hs

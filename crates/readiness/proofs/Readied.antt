@@ -8,7 +8,7 @@ use Rattle.stage.specs.Lawful.{Below}
 use Rattle.allocation.specs.States.{State, opened}
 use Rattle.histories.proofs.Rounds.{profile_stays}
 use Rattle.histories.specs.Histories.{placed_all}
-use Rattle.histories.specs.declared.asked.Asked.{Asked}
+use Rattle.allocation.specs.declared.asked.Asked.{Asked}
 use Rattle.delivery.proofs.Places.{all_pieces_weaker}
 use Rattle.delivery.specs.Code.{stack_bytes}
 use Rattle.delivery.specs.Delivering.{EndsBy}

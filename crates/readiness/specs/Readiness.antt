@@ -8,7 +8,7 @@ use Rattle.stage.specs.Books.{Profile}
 use Rattle.stage.specs.Lawful.{Lawful}
 use Rattle.allocation.specs.States.{opened}
 use Rattle.histories.specs.Histories.{placed_all}
-use Rattle.histories.specs.declared.asked.Asked.{Asked}
+use Rattle.allocation.specs.declared.asked.Asked.{Asked}
 use Rattle.delivery.specs.Bodies.{body_fault}
 use Rattle.delivery.specs.Code.{home_bytes, saved, frame_bytes, caller_code, callee_code}
 use Rattle.delivery.specs.Delivering.{Sane, Sized, Ready}

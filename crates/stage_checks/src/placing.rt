@@ -5,7 +5,6 @@ use banks::bits::Bits;
 use banks::count::Count;
 use blocks::up::Up;
 use conditions::Test;
-use place::pieces::Place;
 use shut::Shut;
 use sides::choose::Choose;
 use sides::over::Over;
@@ -21,8 +20,7 @@ use values::value_type::ValueType;
 // A place as text, or `no`.
 fn text<S: Stage>(heap: Global, pile: &mut S, request: Request) -> Result<String, AllocError> {
     match pile.place(request) {
-        Ok(Place::Single(low)) => format!(in heap; "{low}"),
-        Ok(Place::Double(low, high)) => format!(in heap; "{low} {high}"),
+        Ok(place) => format!(in heap; "{place}"),
         Err(_) => String::from_str(heap, "no"),
     }
 }
@@ -36,9 +34,7 @@ fn places<S: Stage>(
     reach: u16,
 ) -> Result<(), Fail> {
     for (word, place) in table {
-        let Some(value) = ValueType::from_word(word.as_bytes()) else {
-            return Err(Fail::new("no type"));
-        };
+        let value = ValueType::try_from(word.as_bytes())?;
         let given = text(heap, pile, value.request())?;
         assert_eq!(rt; given.as_str(), *place, "{}", *word);
     }

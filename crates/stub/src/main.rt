@@ -3,16 +3,15 @@
 #![tactic(auto)]
 
 use adjust::Adjust;
+use allocation::asked::Asked;
 use allocation::opened::Open;
 use anyhow::anyhow;
 use banks::bits::Bits;
 use banks::count::Count;
 use blocks::up::Up;
 use conditions::Test;
-use histories::asked::Asked;
 use histories::plays::play;
 use machine::{Instruction, Machine, Outcome, Width};
-use place::pieces::Place;
 use shut::Shut;
 use sides::choose::Choose;
 use sides::over::Over;
@@ -24,8 +23,7 @@ use values::value_type::ValueType;
 // One value's place: its pieces, or that it was refused.
 fn show_place<S: Stage>(rt: &HostRuntime, pile: &mut S, value: ValueType) -> anyhow::Result<()> {
     match pile.place(value.request()) {
-        Ok(Place::Single(low)) => print!(rt; "{low}; ")?,
-        Ok(Place::Double(low, high)) => print!(rt; "{low} {high}; ")?,
+        Ok(place) => print!(rt; "{place}; ")?,
         Err(_) => print!(rt; "refused; ")?,
     }
     Ok(())
@@ -35,10 +33,7 @@ fn show_place<S: Stage>(rt: &HostRuntime, pile: &mut S, value: ValueType) -> any
 fn show<S: Stage + Drop>(rt: &HostRuntime, mut pile: S, signature: &str) -> anyhow::Result<()> {
     print!(rt; "{signature}: ")?;
     for word in signature.split(' ') {
-        let Some(value) = ValueType::from_word(word.as_bytes()) else {
-            return Err(anyhow!("no type"));
-        };
-        show_place(rt, &mut pile, value)?;
+        show_place(rt, &mut pile, ValueType::try_from(word.as_bytes())?)?;
     }
     let block = Size::Eight.round_up(pile.reach());
     println!(rt; "block {block}")?;
@@ -57,14 +52,6 @@ fn floats_apart() -> Result<Choose<Count, Adjust<Up>>, ParameterFault> {
     Ok(Choose::new(Test::of_kinds(&[Kind::Float])?, Count::new(&[4, 5])?, rest))
 }
 
-fn asked(kind: Kind, width: u8) -> Asked {
-    Asked {
-        kind,
-        width,
-        alignment: width,
-    }
-}
-
 // The pile of the sides below: registers until one is refused, then the block.
 fn convention() -> Result<Over<Shut<Bits>, Up>, ParameterFault> {
     Ok(Over::new(Shut::new(Bits::new(&[0, 1])?), Up::new(8)?))
@@ -78,9 +65,8 @@ fn show_side<P: Stage + Drop>(
 ) -> anyhow::Result<()> {
     print!(rt; "{side}: ")?;
     for width in [4, 8, 4] {
-        match allocation.place(Kind::Unsigned, width, width) {
-            Ok(Place::Single(low)) => print!(rt; "{low}; ")?,
-            Ok(Place::Double(low, high)) => print!(rt; "{low} {high}; ")?,
+        match allocation.place(Asked::aligned(Kind::Unsigned, width)) {
+            Ok(place) => print!(rt; "{place}; ")?,
             Err(_) => print!(rt; "refused; ")?,
         }
     }
@@ -93,12 +79,16 @@ fn show_side<P: Stage + Drop>(
 fn show_sides(rt: &HostRuntime) -> anyhow::Result<()> {
     // The bench's shut had closed, and something that is no type was refused.
     let closed = [
-        asked(Kind::Unsigned, 1),
-        asked(Kind::Float, 2),
-        asked(Kind::Unsigned, 4),
+        Asked::aligned(Kind::Unsigned, 1),
+        Asked::aligned(Kind::Float, 2),
+        Asked::aligned(Kind::Unsigned, 4),
     ];
     let bench = play(convention()?, &[&closed], &[]);
-    let core = play(convention()?, &[&[], &[asked(Kind::Signed, 8)]], &[]);
+    let core = play(
+        convention()?,
+        &[&[], &[Asked::aligned(Kind::Signed, 8)]],
+        &[],
+    );
     show_side(rt, "bench after a round that closed its shut", bench)?;
     show_side(rt, "core after two other rounds", core)
 }

@@ -8,10 +8,9 @@ use Rattle.values.specs.declared.value_type.ValueType.{ValueType}
 use Rattle.place.specs.declared.pieces.Place.{Place}
 use Rattle.stage.proofs.Runs.{along}
 use Rattle.stage.specs.Books.{Book, said, used}
-use Rattle.allocation.specs.Rules.{size_of, request_in, reaching_with, answer_for}
+use Rattle.allocation.specs.Rules.{size_of, request_in, reaching_with, answer_for, place_answer}
 use Rattle.allocation.specs.States.{opened}
 use Rattle.blocks.specs.Blocks.{up_move}
-use Rattle.histories.specs.Histories.{answer_next}
 use Rattle.worked.specs.Cases.{WorkedCases, own, eight, up_after, fault}
 use Rattle.worked.specs.Piles.{shared}
 use Rattle.worked.proofs.EmptyCall.{empty_call_ends}
@@ -29,7 +28,7 @@ that_size Two = refl
 that_size Four = refl
 that_size Eight = refl
 
-every_type_23 : (t : ValueType) → answer_next (opened shared) (own t.kind t.width) ≡ fault 23 0
+every_type_23 : (t : ValueType) → place_answer (opened shared) (own t.kind t.width) ≡ fault 23 0
 every_type_23 t =
     let r : Request = record { kind = t.kind; width = t.width; alignment = t.width } in
     ap (λ o. answer_for (opened shared) (reaching_with 0 shared.questions.sound (request_in t.kind o o))) (that_size t.width)

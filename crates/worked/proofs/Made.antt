@@ -9,7 +9,7 @@ use Rattle.adjust.specs.declared.Change.{Change}
 use Rattle.adjust.specs.declared.Change.TheVariants.{Width}
 use Rattle.allocation.specs.Faults.{Answer}
 use Rattle.blocks.specs.Blocks.{up_profile}
-use Rattle.histories.specs.declared.asked.Asked.{Asked}
+use Rattle.allocation.specs.declared.asked.Asked.{Asked}
 use Rattle.sides.specs.Sides.{over_profile}
 use Rattle.worked.specs.Trials.{Gives}
 

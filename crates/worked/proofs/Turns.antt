@@ -3,7 +3,8 @@ use Rattle.std.proofs.Common.{◌≡◌, ℕ, ◌+◌, ◌<◌, List, ◌∷◌,
 use Rattle.std.proofs.lemmas.List.{at_drop_more}
 use Rattle.allocation.specs.Faults.{Answer, answer_of}
 use Rattle.allocation.specs.States.{State}
-use Rattle.histories.specs.Histories.{placed_next, answer_next, answers, placed_all}
+use Rattle.allocation.specs.Rules.{place_answer, placed}
+use Rattle.histories.specs.Histories.{answers, placed_all}
 use Rattle.worked.specs.Trials.{Line, asks, expects}
 
 abbrev pub AsExpected : State → List Line → Type 0
@@ -23,7 +24,7 @@ module _ (s : State) (ls : List Line) (i : ℕ) (d : Line) (l : i < length ls) w
   line = get_or ls i d
 
   abbrev next : State
-  next = placed_next s line.0
+  next = placed s line.0
 
   abbrev rest : List Line
   rest = drop (i + 1) ls
@@ -31,14 +32,14 @@ module _ (s : State) (ls : List Line) (i : ℕ) (d : Line) (l : i < length ls) w
   taken : drop i ls ≡ line ∷ rest
   taken = at_drop_more (λ (xs : List Line). xs) ls i d l
 
-  pub met_now : AsExpected s (drop i ls) → answer_next s line.0 ≡ answer_of line.1
+  pub met_now : AsExpected s (drop i ls) → place_answer s line.0 ≡ answer_of line.1
   met_now e = first_of _ _ (answers next (asks rest)) (expects rest) (subst (AsExpected s) taken e)
 
   module _ (x : State) (at : x ≡ next) where
     pub met_later : AsExpected s (drop i ls) → AsExpected x rest
-    met_later e = ap (λ z. answers z (asks rest)) at ∙ others_of (answer_next s line.0) (answer_of line.1) _ _ (subst (AsExpected s) taken e)
+    met_later e = ap (λ z. answers z (asks rest)) at ∙ others_of (place_answer s line.0) (answer_of line.1) _ _ (subst (AsExpected s) taken e)
 
-    pub met_all : answer_next s line.0 ≡ answer_of line.1 → AsExpected x rest → AsExpected s (drop i ls)
+    pub met_all : place_answer s line.0 ≡ answer_of line.1 → AsExpected x rest → AsExpected s (drop i ls)
     met_all e f = subst (AsExpected s) (sym taken) (both _ _ _ _ e (sym (ap (λ z. answers z (asks rest)) at) ∙ f))
 
     pub leads_on : placed_all x (asks rest) ≡ placed_all s (asks (drop i ls))

@@ -1,4 +1,5 @@
 -- The worked cases.
+use Rattle.allocation.specs.Rules.{place_answer}
 use Rattle.std.specs.Prelude.{◌≡◌, ℕ, ◌+◌, ◌^◌, ◌<◌, ◌≤◌, List, [], ◌∷◌, length, replicate, Some, None, Ok, Err}
 use Rattle.values.specs.Sizes.{bytes}
 use Rattle.values.specs.declared.kinds.Kind.{Kind}
@@ -14,8 +15,7 @@ use Rattle.allocation.specs.Faults.{Answer}
 use Rattle.allocation.specs.States.{opened}
 use Rattle.delivery.specs.Code.{caller_code, callee_code}
 use Rattle.delivery.specs.Delivering.{ended}
-use Rattle.histories.specs.Histories.{answer_next}
-use Rattle.histories.specs.declared.asked.Asked.{Asked}
+use Rattle.allocation.specs.declared.asked.Asked.{Asked}
 use Rattle.machine.specs.Machine.{Contents, reg, running, runs, with_reg}
 use Rattle.machine.specs.declared.Side.TheVariants.{Caller}
 use Rattle.worked.specs.Piles.{wide, shut_pair, open_pair, count_pair, block, shared}
@@ -85,7 +85,7 @@ pub record WorkedCases : Type 0 where
   -- so both reaches do come up
   pub u8_511_times_reaches_4088 : used (up_after (replicate 511 eight)) ≡ 4088
   pub u1_after_them_reaches_4089 : used (after (up_after (replicate 511 eight)) one) ≡ 4089
-  pub a_register_in_two_banks_gets_every_type_23 : (t : ValueType) → answer_next (opened shared) (own t.kind t.width) ≡ fault 23 0
+  pub a_register_in_two_banks_gets_every_type_23 : (t : ValueType) → place_answer (opened shared) (own t.kind t.width) ≡ fault 23 0
   -- r30 holds the index to return to, and all else is as before
   pub an_empty_call_ends_after_7_steps :
       (x : Contents) → length x.regs ≡ 32 → ((r : ℕ) → reg x r < 2 ^ 32) → (kept budget : ℕ) → 7 ≤ budget →

@@ -8,7 +8,7 @@ use Rattle.allocation.specs.States.{opened}
 use Rattle.allocation.specs.declared.faults.PlacementFault.{PlacementFault}
 use Rattle.delivery.specs.Code.{stack_bytes}
 use Rattle.histories.specs.Histories.{answers, placed_all}
-use Rattle.histories.specs.declared.asked.Asked.{Asked}
+use Rattle.allocation.specs.declared.asked.Asked.{Asked}
 
 -- a pile, newly opened, answers the requests so, and has then used so many block bytes, rounded up to 8
 abbrev pub Gives : Profile → List Asked → List Answer → ℕ → Type 0

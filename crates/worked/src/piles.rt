@@ -2,12 +2,13 @@
 ghost use Rattle.worked.specs.Piles.{wide, shut_pair, open_pair, count_pair, shared};
 ghost use Rattle.worked.specs.Trials.{Gives, Tells, asks, expects};
 
-use crate::trial::{Answer, gives};
+use crate::trial::gives;
+use allocation::answers::Answer;
 use adjust::Adjust;
 use banks::bits::Bits;
 use banks::count::Count;
 use blocks::up::Up;
-use histories::asked::Asked;
+use allocation::asked::Asked;
 use shut::Shut;
 use sides::over::Over;
 use stage::ParameterFault;

@@ -1,22 +1,12 @@
 // Piles, asked for types, against what they should answer.
-ghost use Rattle.std.specs.Prelude.{◌≡◌, Decides};
-ghost use Rattle.allocation.specs.Faults.{answer_of};
+ghost use Rattle.std.specs.Prelude.{Decides};
 ghost use Rattle.worked.specs.Trials.{Gives, asks, expects};
 
-use allocation::faults::PlacementFault;
+use allocation::answers::{Answer, same_answer};
+use allocation::asked::Asked;
 use allocation::opened::Open;
-use histories::asked::Asked;
-use place::pieces::Place;
 use stage::Stage;
 use values::sizes::Size;
-
-pub(crate) type Answer = Result<Place, PlacementFault>;
-
-fn same_answer(a: Answer, b: Answer) -> bool
-    ensures by_place_or_by_number_and_position { Decides result (answer_of a ≡ answer_of b) }
-{
-    a == b
-}
 
 // Whether the pile, newly opened, answers each line so, and has then used so many block bytes, rounded up to 8.
 pub(crate) fn gives<P: Stage + Drop>(pile: P, lines: &[(Asked, Answer)], block: u32) -> bool
@@ -25,7 +15,7 @@ pub(crate) fn gives<P: Stage + Drop>(pile: P, lines: &[(Asked, Answer)], block: 
     let mut allocation = Open::new(pile);
     for line in lines {
         let (asked, expected) = *line;
-        let answer = allocation.place(asked.kind, asked.width, asked.alignment);
+        let answer = allocation.place(asked);
         if !same_answer(answer, expected) {
             return false;
         }

@@ -3,7 +3,7 @@ use Rattle.std.proofs.lemmas.List.{at_drop_more, at_drop_all}
 use Rattle.values.specs.declared.kinds.Kind.TheVariants.{Unsigned}
 use Rattle.allocation.specs.Faults.{placement_fault}
 use Rattle.allocation.specs.States.{State, state}
-use Rattle.histories.specs.declared.asked.Asked.{Asked}
+use Rattle.allocation.specs.declared.asked.Asked.{Asked}
 use Rattle.call.specs.Placing.{placed_until, first_refused, placing_fault}
 use Rattle.call.proofs.Places.{granted_goes_on, granted_no_fault, refused_stops, refused_fault}
 use Rattle.call.proofs.Turned.{turned}
@@ -14,7 +14,7 @@ unused = record { kind = Unsigned; width = 0; alignment = 0 }
 
 pub returns-in_err-place : goal.returns-in_err-place
 returns-in_err-place g c =
-    let s = state g.P.Stage c.loop-asked.allocation.allocation in
+    let s = state g.P.Stage c.loop-asked.allocation in
     let qs = c.args.list.now in
     let i = c.loop-asked.asked-index in
     let rest = drop (i + 1) qs in
@@ -31,7 +31,7 @@ returns-in_err-place g c =
 
 pub loop-asked-preserved : goal.loop-asked-preserved
 loop-asked-preserved g c =
-    let s = state g.P.Stage c.loop-asked.allocation.allocation in
+    let s = state g.P.Stage c.loop-asked.allocation in
     let qs = c.args.list.now in
     let i = c.loop-asked.asked-index in
     let rest = drop (i + 1) qs in
@@ -43,7 +43,7 @@ loop-asked-preserved g c =
 
 pub returns : goal.returns
 returns g c =
-    let s = state g.P.Stage c.loop-asked.allocation.allocation in
+    let s = state g.P.Stage c.loop-asked.allocation in
     let qs = c.args.list.now in
     let i = c.loop-asked.asked-index in
     record {

@@ -6,5 +6,5 @@ use Rattle.call.proofs.placing.place_list.Given as goal
 -- what is left of the list comes out as the whole did
 abbrev pub invariant-loop-asked : goal.invariant-loop-asked
 invariant-loop-asked g l =
-    (placed_until (state g.P.Stage l.allocation.allocation) (drop l.asked-index l.list) ≡ placed_until (state g.P.Stage l.initial.allocation.allocation) l.list)
-    × (first_refused (state g.P.Stage l.allocation.allocation) (drop l.asked-index l.list) ≡ first_refused (state g.P.Stage l.initial.allocation.allocation) l.list)
+    (placed_until (state g.P.Stage l.allocation) (drop l.asked-index l.list) ≡ placed_until (state g.P.Stage l.initial.allocation) l.list)
+    × (first_refused (state g.P.Stage l.allocation) (drop l.asked-index l.list) ≡ first_refused (state g.P.Stage l.initial.allocation) l.list)

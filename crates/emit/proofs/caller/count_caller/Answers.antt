@@ -7,8 +7,8 @@ use Rattle.emit.proofs.caller.count_caller.Goals as goal
 
 pub returns : goal.returns
 returns g c =
-    let a = state g.P.Stage c.args.arguments.now.allocation in
-    let r = state g.Q.Stage c.args.results.now.allocation in
+    let a = state g.P.Stage c.args.arguments.now in
+    let r = state g.Q.Stage c.args.results.now in
     let hs = map holding c.held.result.now in
     let ks = map holding c.held-2.result.now in
     let e = c.held.ensures.granted_since_opened_in_order in

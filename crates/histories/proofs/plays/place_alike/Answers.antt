@@ -6,7 +6,7 @@ use Rattle.allocation.specs.States.{state}
 use Rattle.histories.proofs.Turns.{same_now, same_later, same_all}
 use Rattle.histories.proofs.Twins.{equal_answers}
 use Rattle.histories.specs.Histories.{answers, answers_in, history}
-use Rattle.histories.specs.declared.asked.Asked.{Asked}
+use Rattle.allocation.specs.declared.asked.Asked.{Asked}
 use Rattle.histories.proofs.plays.place_alike.Goals as goal
 
 abbrev unused : Asked
@@ -14,8 +14,8 @@ unused = record { kind = Unsigned; width = 0; alignment = 0 }
 
 pub loop-asked-preserved : goal.loop-asked-preserved
 loop-asked-preserved g c =
-    let a = state g.P.Stage c.loop-asked.one.allocation in
-    let b = state g.Q.Stage c.loop-asked.other.allocation in
+    let a = state g.P.Stage c.loop-asked.one in
+    let b = state g.Q.Stage c.loop-asked.other in
     let one = c.place-answer.ensures in
     let other = c.place-counterpart.ensures in
     let same = sym one.answers_by_the_rules ∙ c.if-not-same_answer.ensures.by_place_or_by_number_and_position.0 refl ∙ other.answers_by_the_rules in (
@@ -25,8 +25,8 @@ loop-asked-preserved g c =
 
 pub returns-then-not-same_answer : goal.returns-then-not-same_answer
 returns-then-not-same_answer g c =
-    let a = state g.P.Stage c.loop-asked.one.allocation in
-    let b = state g.Q.Stage c.loop-asked.other.allocation in
+    let a = state g.P.Stage c.loop-asked.one in
+    let b = state g.Q.Stage c.loop-asked.other in
     let p = g.P.Stage.profile c.args.first in
     let q = g.Q.Stage.profile c.args.second in
     let since = c.args.since.now in
@@ -47,8 +47,8 @@ returns g c =
     let p = g.P.Stage.profile c.args.first in
     let q = g.Q.Stage.profile c.args.second in
     let since = c.args.since.now in
-    let a = state g.P.Stage c.loop-asked.one.allocation in
-    let b = state g.Q.Stage c.loop-asked.other.allocation in
+    let a = state g.P.Stage c.loop-asked.one in
+    let b = state g.Q.Stage c.loop-asked.other in
     let end = at_drop_all (answers a) since c.loop-asked.asked-index c.loop-asked-test.false ∙ sym (at_drop_all (answers b) since c.loop-asked.asked-index c.loop-asked-test.false) in
     let all = sym (ap (λ s. answers s since) c.play-one.ensures.plays_the_history) ∙ c.loop-asked.invariant.0 end ∙ ap (λ s. answers s since) c.play-other.ensures.plays_the_history in
     record {

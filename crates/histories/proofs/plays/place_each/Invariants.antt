@@ -4,4 +4,4 @@ use Rattle.histories.specs.Histories.{placed_all}
 use Rattle.histories.proofs.plays.place_each.Given as goal
 
 abbrev pub invariant-loop-asked : goal.invariant-loop-asked
-invariant-loop-asked g l = placed_all (state g.P.Stage l.allocation.allocation) (drop l.asked-index l.since) ≡ placed_all (state g.P.Stage l.initial.allocation.allocation) l.since
+invariant-loop-asked g l = placed_all (state g.P.Stage l.allocation) (drop l.asked-index l.since) ≡ placed_all (state g.P.Stage l.initial.allocation) l.since

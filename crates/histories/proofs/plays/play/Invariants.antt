@@ -3,4 +3,4 @@ use Rattle.allocation.specs.States.{state, opened}
 use Rattle.histories.proofs.plays.play.Given as goal
 
 abbrev pub invariant-loop-round : goal.invariant-loop-round
-invariant-loop-round g l = state g.P.Stage l.allocation.allocation ≡ opened (g.P.Stage.profile l.initial.allocation.allocation.pile)
+invariant-loop-round g l = state g.P.Stage l.allocation ≡ opened (g.P.Stage.profile l.initial.allocation.pile)

@@ -17,7 +17,7 @@ unused = (record { kind = Unsigned; width = 0; alignment = 0 }, Ok (Single (Regi
 
 pub loop-line-preserved : goal.loop-line-preserved
 loop-line-preserved g c =
-    let s = state g.P.Stage c.loop-line.allocation.allocation in
+    let s = state g.P.Stage c.loop-line.allocation in
     let ls = c.args.lines.now in
     let i = c.loop-line.line-index in
     let l = c.loop-line-test.true in
@@ -30,7 +30,7 @@ loop-line-preserved g c =
 
 pub returns-then-not-same_answer : goal.returns-then-not-same_answer
 returns-then-not-same_answer g c =
-    let s = state g.P.Stage c.loop-line.allocation.allocation in
+    let s = state g.P.Stage c.loop-line.allocation in
     let ls = c.args.lines.now in
     let first = c.new-allocation.ensures.newly_opened in
     record {
@@ -45,7 +45,7 @@ returns-then-not-same_answer g c =
 
 pub returns : goal.returns
 returns g c =
-    let s = state g.P.Stage c.loop-line.allocation.allocation in
+    let s = state g.P.Stage c.loop-line.allocation in
     let ls = c.args.lines.now in
     let first = c.new-allocation.ensures.newly_opened in
     let end = c.loop-line-test.false in

@@ -1,6 +1,0 @@
-use Rattle.std.proofs.Common.{rules}
-use Rattle.allocation.proofs.Compared.{compared_decides}
-use Rattle.worked.proofs.trial.same_answer.Goals as goal
-
-pub returns : goal.returns
-returns c = search (rules, compared_decides)
