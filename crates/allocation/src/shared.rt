@@ -7,7 +7,8 @@ use stage::Stage;
 use std::marker::PhantomData;
 use values::value_type::ValueType;
 
-// A pile in use; S says whether it places or is frozen.
+// A pile in use; S says whether it places or is frozen. Contracts see it by the definition `state` and not by a model,
+// since a model's value has no room for a function, and a book is one.
 #[derive(Drop)]
 pub struct Allocation<P, S> {
     pub(crate) pile: P,

@@ -5,7 +5,6 @@ use Rattle.std.proofs.lemmas.List.{append-nil, append_assoc, map-append, length_
 use Rattle.std.proofs.lemmas.Bool.{leb-false, lt-leb, cases_lt, and_parts, both_ways}
 use Rattle.std.specs.Option.{option_map, option_to_list}
 use Rattle.std.specs.List.{AllByRecursion}
-use Rattle.values.specs.Sizes.{bytes}
 use Rattle.values.specs.Types.{own_request}
 use Rattle.values.specs.declared.requests.Request.{Request}
 use Rattle.values.specs.declared.value_type.ValueType.{ValueType}

@@ -19,6 +19,7 @@ impl ValueType {
             Kind::Float => width >= Size::Four,
             Kind::Address => width == Size::Four,
         };
+        // A literal owes that it is one of the eleven, which is known in this branch.
         if exists {
             Ok(ValueType { kind, width })
         } else {
