@@ -1,4 +1,5 @@
-// The piles of the worked cases, each asked for a list of types.
+// The piles of the worked cases, each asked for a list of types: with the making of the piles apart from the asking, the
+// proofs of the cases did not close.
 ghost use Rattle.worked.specs.Piles.{wide, shut_pair, open_pair, count_pair, shared};
 ghost use Rattle.worked.specs.Trials.{Gives, Tells, asks, expects};
 

@@ -1,0 +1,13 @@
+use Rattle.std.proofs.Common.{ap, ◌∙◌}
+use Rattle.banks.specs.Banks.{bits_profile}
+use Rattle.shut.specs.Shutting.{shut_profile}
+use Rattle.worked.proofs.Made.{up_eight, over_made}
+use Rattle.worked.proofs.piles.shut_pair.Goals as goal
+
+pub returns : goal.returns
+returns c =
+    let bits = ap bits_profile c.in_ok-new.ensures.starts_with_the_list.0 in
+    let shut = ap (shut_profile 0) (c.new-2.ensures.stage_below_is_cleared.profile_stays ∙ bits) in
+    let up = up_eight _ c.in_ok-new-2.ensures.starts_empty_with_the_limit.0 in
+    let sides = c.new-4.ensures in
+    record { is_the_shut_pair = over_made _ _ _ _ (sides.first_is_cleared.profile_stays ∙ shut) (sides.second_is_cleared.profile_stays ∙ up) }
