@@ -11,7 +11,7 @@ use blocks::up::Up;
 use conditions::Test;
 use histories::asked::Asked;
 use histories::plays::play;
-use machine::{Instruction, Machine, Outcome, Width};
+use machine::{Instruction, Machine, Program, Width};
 use place::pieces::Place;
 use shut::Shut;
 use sides::choose::Choose;
@@ -143,15 +143,14 @@ fn show_call(rt: &HostRuntime) -> anyhow::Result<()> {
     let callee = [Instruction::Addi { d: 0, s: 0, i: 47 }, Instruction::Ret];
     let mut memory = [0; 128];
     let mut machine = Machine::new([0; 32]);
-    let Ok((outcome, steps)) = machine.run(&mut memory, &caller, &callee, 100) else {
+    let program = Program {
+        caller: &caller,
+        callee: &callee,
+    };
+    let Ok((outcome, steps)) = machine.run(&mut memory, program, 100) else {
         return Err(anyhow!("the memory is too large"));
     };
-    let word = match outcome {
-        Outcome::Ended => "ended",
-        Outcome::Stuck => "stuck",
-        Outcome::Spent => "spent",
-    };
-    print!(rt; "call: {word} after {steps} steps")?;
+    print!(rt; "call: {outcome} after {steps} steps")?;
     show_registers(rt, &machine.registers)?;
     show_bytes(rt, &memory)?;
     println!(rt; "")?;
