@@ -54,7 +54,7 @@ next_is (Some u) s t e h = cc
 
 next_none : (o : Option State) (s t : State) → t ≡ or_same o s → false ≡ is_some o → (o ≡ None) × (t ≡ s)
 next_none None s t e h = (refl, e)
-next_none (Some u) s t e h = let z : ◌≡◌ {A = ℕ} 0 1 = cc in absurd (omega arith)
+next_none (Some u) s t e h = absurd cc
 
 -- a step that a run makes, where what is left of its budget is the rest of it
 pub run_goes_on : (a b : List Instruction) (budget made : ℕ) (s t : State) (run : Run) (stepped : Bool) →

@@ -169,11 +169,15 @@ impl Machine {
         }
     }
 
-    // Whether LOAD and STORE have a place at register `b`'s value plus `i`.
-    fn reaches(&self, memory: &[u8], b: u8, i: i16, width: Width) -> bool
-        ensures whether_the_register_exists_and_all_bytes_lie_inside { result ≡ (ok b && is_some (address (reg (contents_of self.now memory.now) b) i (bytes_of width) (length memory.now))) }
+    // The memory index of LOAD and STORE at register `b`'s value plus `i`.
+    fn reached(&self, memory: &[u8], b: u8, i: i16, width: Width) -> Option<usize>
+        ensures index_where_the_register_exists_and_all_bytes_lie_inside { result ≡ (if ok b then address (reg (contents_of self.now memory.now) b) i (bytes_of width) (length memory.now) else None) }
     {
-        b < 32 && place(self.registers[b as usize], i, width.bytes(), memory.len()).is_some()
+        if b < 32 {
+            place(self.registers[b as usize], i, width.bytes(), memory.len())
+        } else {
+            None
+        }
     }
 
     // Whether an instruction can be done in this mode, with these registers and this memory.
@@ -189,10 +193,12 @@ impl Machine {
             Instruction::Mov { d, s }
             | Instruction::Addi { d, s, .. }
             | Instruction::Sign { d, s } => d < 32 && s < 32,
-            Instruction::Load { d, b, i, width, .. } => d < 32 && self.reaches(memory, b, i, width),
-            Instruction::Store { s, b, i, width } => s < 32 && self.reaches(memory, b, i, width),
-            Instruction::Call => matches!(side, Side::Caller),
-            Instruction::Ret => matches!(side, Side::Callee),
+            Instruction::Load { d, b, i, width, .. } => d < 32
+                && self.reached(memory, b, i, width).is_some(),
+            Instruction::Store { s, b, i, width } => s < 32
+                && self.reached(memory, b, i, width).is_some(),
+            Instruction::Call => side == Side::Caller,
+            Instruction::Ret => side == Side::Callee,
             Instruction::Halt => true,
         }
     }
@@ -212,9 +218,9 @@ impl Machine {
                 );
             }
             Instruction::Addi { d, s, i } => {
-                self.registers[d as usize] = self.registers[s as usize].wrapping_add(i32::from(
-                    i,
-                ).cast_unsigned());
+                self.registers[d as usize] = self.registers[s as usize].wrapping_add_signed(
+                    i32::from(i),
+                );
             }
             Instruction::Sign { d, s } => {
                 self.registers[d as usize] = sign(self.registers[s as usize]);
@@ -226,11 +232,11 @@ impl Machine {
                 width,
                 signed,
             } => {
-                let at = place(self.registers[b as usize], i, width.bytes(), memory.len()).unwrap();
+                let at = self.reached(memory, b, i, width).unwrap();
                 self.registers[d as usize] = load(memory, at, width, signed);
             }
             Instruction::Store { s, b, i, width } => {
-                let at = place(self.registers[b as usize], i, width.bytes(), memory.len()).unwrap();
+                let at = self.reached(memory, b, i, width).unwrap();
                 store(memory, at, width, self.registers[s as usize]);
             }
             // These do not go on to the next one: `step` carries them out.
