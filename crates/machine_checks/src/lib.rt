@@ -57,18 +57,16 @@ mod tests {
         registers[2] = r2;
         let mut memory = BYTES;
         let mut machine = Machine::new(registers);
-        let (outcome, steps) = machine.run(
+        let ran = machine.run(
             &mut memory,
             program(&[instruction, Instruction::Halt], &[]),
             10,
         )?;
         if let Some(value) = r3 {
             registers[3] = value;
-            assert_eq!(rt; outcome, Outcome::Ended);
-            assert_eq!(rt; steps, 2);
+            assert_eq!(rt; ran, (Outcome::Ended, 2));
         } else {
-            assert_eq!(rt; outcome, Outcome::Stuck);
-            assert_eq!(rt; steps, 0);
+            assert_eq!(rt; ran, (Outcome::Stuck, 0));
             assert_eq!(rt; machine.mode, in_caller(0));
         }
         assert!(rt; machine.registers == registers);
@@ -262,8 +260,7 @@ mod tests {
             machine.run(&mut memory, program(&code, &[]), 2),
             Err(RunFault::MemoryTooLarge)
         );
-        assert!(rt; machine.registers == registers);
-        assert_eq!(rt; machine.mode, in_caller(0));
+        assert_eq!(rt; machine, Machine::new(registers));
         Ok(())
     }
 }
