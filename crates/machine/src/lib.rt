@@ -1,8 +1,7 @@
 // A register machine: 32 registers of 32 bits, a memory of bytes that is lent to it, and two lists of instructions.
 #![tactic(auto)]
 
-ghost use Rattle.std.specs.Prelude.{◌≡◌, ◌+◌, ◌-◌, ◌^◌, ◌<◌, ◌≤◌, true, length, is_some, IfOk, if◌then◌else◌, Some, None, OnErr, OnOk, OnSome, nat_lt, ◌&&◌};
-ghost use Rattle.std.specs.List.{slice_get};
+ghost use Rattle.std.specs.Prelude.{◌≡◌, ◌+◌, ◌-◌, ◌^◌, ◌<◌, ◌≤◌, true, length, is_some, IfOk, if◌then◌else◌, Some, None, OnErr, OnOk, OnSome, nat_lt};
 ghost use Rattle.machine.specs.Machine.{ok, reg, address, bytes_of, loaded, stored, sign_of, contents_of, state_of, effect, next, or_same, instruction_at, runs, outcome_of, fault_in};
 ghost use Rattle.machine.specs.Fetch.{carried, LeadsTo, index_of};
 ghost use Rattle.machine.specs.Laws.{OnlyWritten, LargerBudgetGoesOn, StoppedStays, SpentUsesUpBudget, StuckExactlyWhere, StraightLineComposes, CallOfStraightLinesEnds};
