@@ -9,7 +9,7 @@ use allocation::frozen::Frozen;
 use call_faults::CallFault;
 use emit::callee::{callee_code, callee_size};
 use emit::caller::{caller_code, caller_size};
-use machine::{Instruction, MEMORY_LIMIT, Machine, RunFault};
+use machine::{Instruction, MEMORY_LIMIT, Machine, Program, RunFault};
 use stage::Stage;
 
 // How many records each list has, and how many bytes the memory.
@@ -74,7 +74,7 @@ pub(crate) fn code_and_run<A: Stage, B: Stage, C: Stage, D: Stage>(
         callee,
     )?;
     let mut machine = Machine::new(*registers);
-    let (outcome, steps) = machine.run(memory, caller, callee, budget)?;
+    let (outcome, steps) = machine.run(memory, Program { caller, callee }, budget)?;
     *registers = machine.registers;
     Ok(Ran {
         caller_length,

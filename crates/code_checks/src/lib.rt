@@ -13,7 +13,7 @@ mod tests {
     use emit::callee::{callee_code, callee_size};
     use emit::caller::{caller_code, caller_size};
     use emit::faults::CodeFault;
-    use machine::{Instruction, Machine, Outcome, RunFault, Width};
+    use machine::{Instruction, Machine, Outcome, Program, RunFault, Width};
     use place::registers::RegisterSet;
     use sides::over::Over;
     use stage::{ParameterFault, Stage};
@@ -99,7 +99,11 @@ mod tests {
         registers[9] = 77;
         registers[31] = 64;
         let mut machine = Machine::new(registers);
-        let (outcome, steps) = machine.run(&mut memory, &caller, &callee, 100)?;
+        let program = Program {
+            caller: &caller,
+            callee: &callee,
+        };
+        let (outcome, steps) = machine.run(&mut memory, program, 100)?;
         assert_eq!(rt; (outcome, steps), (Outcome::Ended, 25));
         assert_eq!(rt; (machine.registers[9], machine.registers[31]), (77, 64));
         assert_eq!(rt;

@@ -10,7 +10,7 @@ use blocks::up::Up;
 use call::calls::call;
 use call::ran::Ran;
 use call::sides::{Routine, Side, UsedPile};
-use machine::{Instruction, Outcome, Width};
+use machine::{Instruction, Width};
 use place::registers::RegisterSet;
 use sides::over::Over;
 use stage::{ParameterFault, Stage};
@@ -76,13 +76,8 @@ fn show_run(
     arguments: &[Held],
     memory: &[u8; 256],
 ) -> anyhow::Result<()> {
-    let word = match ran.outcome {
-        Outcome::Ended => "ended",
-        Outcome::Stuck => "stuck",
-        Outcome::Spent => "spent",
-    };
-    let steps = ran.steps;
-    println!(rt; "{word} {steps}")?;
+    let (outcome, steps) = (ran.outcome, ran.steps);
+    println!(rt; "{outcome} {steps}")?;
     // The callee's homes lie below the stack pointer at the start by the stack bytes of both sides.
     let taken = ran.block as usize + ran.frame as usize;
     for (i, h) in arguments.iter().enumerate() {

@@ -1,5 +1,6 @@
 use Rattle.std.proofs.Common.{◌≡◌, ℕ, zero, suc, ◌+◌, ◌/◌, ◌%◌, ◌<◌, ◌≤◌, Bool, true, false, cond, ◌&&◌, ◌≢◌, ◌⊎◌, List, length, get_or, set, ℤ, pos, negsuc, ◌+ℤ◌, Some, None, Option, sym, refl, ap, ◌∙◌, subst, inl, inr, arith, length-set, get_or-set_other}
 use Rattle.std.specs.List.{slice_get}
+use Rattle.std.proofs.lemmas.Option.{same_Some, cond_some}
 use Rattle.machine.specs.declared.Instruction.{Instruction}
 use Rattle.machine.specs.declared.Instruction.TheVariants.{Set, Mov, Add, Addi, Sign, Load, Store, Call, Ret, Halt}
 use Rattle.machine.specs.declared.Width.{Width}
@@ -9,7 +10,6 @@ use Rattle.machine.specs.declared.Mode.{Mode}
 use Rattle.machine.specs.declared.Mode.TheVariants.{Running, Ended}
 use Rattle.machine.specs.Machine.{Contents, State, effect, next, next_from, carried_out, fetches, onward, calls, returns, code_on, instruction_at, or_same, reg, with_reg, bytes_of, loads, stores, inside, address, ok, stored}
 use Rattle.machine.specs.Laws.{Frame, WritesRegister, WritesByte, Covers, OnlyWritten}
-use Rattle.machine.proofs.Straight.{no_some}
 
 pub length_stored : (k : ℕ) (m : List ℕ) (a v : ℕ) → length (stored m a k v) ≡ length m
 length_stored zero m a v = refl
@@ -37,34 +37,29 @@ wrote x d v = record { regs = λ r n. get_or-set_other x.regs d r v 0 n; mem = �
 -- a fact of what a tested option holds
 tested : (P : Contents → Type 0) (b : Bool) (o : Option Contents) (y : Contents) → ((z : Contents) → o ≡ Some z → P z) → cond b o None ≡ Some y → P y
 tested P true o y f e = f y e
-tested P false o y f e = no_some y e
-
--- a fact of what an option holds
-held : (P : Contents → Type 0) (x y : Contents) → P x → Some x ≡ Some y → P y
-held P x y h e = let same : x ≡ y = cc in subst P same h
+tested P false o y f e = cc
 
 set_frame : (x y : Contents) (b : Bool) (d v : ℕ) → cond b (Some (with_reg x d v)) None ≡ Some y → Frame (λ r. r ≡ d) Nothing x y
-set_frame x y b d v e = tested (Frame (λ r. r ≡ d) Nothing x) b _ y (λ z h. held (Frame (λ r. r ≡ d) Nothing x) (with_reg x d v) z (wrote x d v) h) e
+set_frame x y b d v e = subst (Frame (λ r. r ≡ d) Nothing x) (cond_some b _ y e).1 (wrote x d v)
 
 load_frame : (x y : Contents) (d : ℕ) (w : Width) (s : Bool) (o : Option ℕ) → loads x d w s o ≡ Some y → Frame (λ r. r ≡ d) Nothing x y
-load_frame x y d w s None e = no_some y e
-load_frame x y d w s (Some a) e = held (Frame (λ r. r ≡ d) Nothing x) _ y (wrote x d _) e
+load_frame x y d w s None e = cc
+load_frame x y d w s (Some a) e = subst (Frame (λ r. r ≡ d) Nothing x) (same_Some _ y e) (wrote x d _)
 
 bytes_frame : (x y : Contents) (v : ℕ) (w : Width) (b : Bool) (n : ℕ) → stores x v w (cond b (Some n) None) ≡ Some y → Frame Nothing (λ a. (n ≤ a) × (a < n + bytes_of w)) x y
-bytes_frame x y v w false n e = no_some y e
+bytes_frame x y v w false n e = cc
 bytes_frame x y v w true n e =
-    held (Frame Nothing (λ a. (n ≤ a) × (a < n + bytes_of w)) x) _ y
+    subst (Frame Nothing (λ a. (n ≤ a) × (a < n + bytes_of w)) x) (same_Some _ y e)
     (record {
       regs = λ r h. refl;
       mem = λ a h. stored_other (bytes_of w) x.mem n v a (grind arith);
       count = refl;
       size = length_stored (bytes_of w) x.mem n v;
     })
-    e
 
 store_frame : (x y : Contents) (v : ℕ) (w : Width) (z : ℤ) → stores x v w (inside z (bytes_of w) (length x.mem)) ≡ Some y → Frame Nothing (Covers z (bytes_of w)) x y
 store_frame x y v w (pos n) e = bytes_frame x y v w _ n e
-store_frame x y v w (negsuc n) e = no_some y e
+store_frame x y v w (negsuc n) e = cc
 
 pub effect_frame : (x y : Contents) (i : Instruction) → effect i x ≡ Some y → Frame (WritesRegister i) (WritesByte i x) x y
 effect_frame x y (Set d n) e = set_frame x y _ d _ e
@@ -78,29 +73,26 @@ effect_frame x y (Load d b i w s) e =
 effect_frame x y (Store s b i w) e =
     let to : ℤ = pos (reg x b) +ℤ i in
     tested (Frame Nothing (Covers to (bytes_of w)) x) (ok s && ok b) (stores x (reg x s) w (inside to (bytes_of w) (length x.mem))) y (λ z h. store_frame x z (reg x s) w to h) e
-effect_frame x y Call e = no_some y e
-effect_frame x y Ret e = no_some y e
-effect_frame x y Halt e = no_some y e
-
-no_state : {P : Type 0} (t : State) → None ≡ Some t → P
-no_state t e = let z : ◌≡◌ {A = ℕ} 0 1 = cc in absurd (omega arith)
+effect_frame x y Call e = cc
+effect_frame x y Ret e = cc
+effect_frame x y Halt e = cc
 
 onward_frame : (side : Side) (n : ℕ) (x : Contents) (i : Instruction) (t : State) (o : Option Contents) → o ≡ effect i x → onward side n o ≡ Some t → Frame (WritesRegister i) (WritesByte i x) x t.contents
-onward_frame side n x i t None h e = no_state t e
+onward_frame side n x i t None h e = cc
 onward_frame side n x i t (Some y) h e =
     let same : y ≡ t.contents = ap (λ (s : Option State). elim s [ None ↦ y | Some u ↦ u.contents ]) e in
     subst (Frame (WritesRegister i) (WritesByte i x) x) same (effect_frame x y i (sym h))
 
 -- a fact of the contents of a state that an option holds
 state_held : (P : Contents → Type 0) (s t : State) → P s.contents → Some s ≡ Some t → P t.contents
-state_held P s t h e = let same : s ≡ t = cc in subst (λ (u : State). P u.contents) same h
+state_held P s t h e = subst (λ (u : State). P u.contents) (same_Some s t e) h
 
 call_frame : (side : Side) (n : ℕ) (x : Contents) (t : State) → calls side n x ≡ Some t → Frame (λ r. r ≡ 30) Nothing x t.contents
 call_frame Caller n x t e = state_held (Frame (λ r. r ≡ 30) Nothing x) _ t (wrote x 30 _) e
-call_frame Callee n x t e = no_state t e
+call_frame Callee n x t e = cc
 
 ret_frame : (side : Side) (x : Contents) (t : State) → returns side x ≡ Some t → Frame Nothing Nothing x t.contents
-ret_frame Caller x t e = no_state t e
+ret_frame Caller x t e = cc
 ret_frame Callee x t e = state_held (Frame Nothing Nothing x) _ t (frame_same _ _ x) e
 
 carried_frame : (side : Side) (n : ℕ) (x : Contents) (t : State) (i : Instruction) → carried_out side n x i ≡ Some t → Frame (WritesRegister i) (WritesByte i x) x t.contents
@@ -116,12 +108,12 @@ carried_frame side n x t Ret e = ret_frame side x t e
 carried_frame side n x t Halt e = state_held (Frame Nothing Nothing x) _ t (frame_same _ _ x) e
 
 found_frame : (side : Side) (n : ℕ) (x : Contents) (t : State) (o : Option Instruction) → fetches side n x o ≡ Some t → OnlyWritten o x t.contents
-found_frame side n x t None e = no_state t e
+found_frame side n x t None e = cc
 found_frame side n x t (Some i) e = carried_frame side n x t i e
 
 next_frame : (a b : List Instruction) (m : Mode) (x : Contents) (t : State) → next_from a b m x ≡ Some t → OnlyWritten (instruction_at m a b) x t.contents
 next_frame a b (Running side n) x t e = found_frame side n x t (slice_get (code_on side a b) n) e
-next_frame a b Ended x t e = no_state t e
+next_frame a b Ended x t e = cc
 
 same_or_next : (a b : List Instruction) (s t : State) (o : Option State) → o ≡ next a b s → t ≡ or_same o s → OnlyWritten (instruction_at s.mode a b) s.contents t.contents
 same_or_next a b s t None h e = subst (λ (u : State). OnlyWritten (instruction_at s.mode a b) s.contents u.contents) (sym e) (frame_same _ _ s.contents)

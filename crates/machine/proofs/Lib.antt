@@ -3,3 +3,4 @@ pub mod Straight
 pub mod Calls
 pub mod Frames
 pub mod Stuck
+pub mod Bytes

@@ -1,4 +1,4 @@
-use Rattle.std.proofs.Common.{◌≡◌, ℕ, zero, suc, ◌+◌, ◌-◌, ◌<◌, ◌≤◌, true, false, List, is_some, Some, None, Option, sym, refl, ap, ◌∙◌, add-zero, suc-add, zero-add, arith}
+use Rattle.std.proofs.Common.{◌≡◌, ℕ, zero, suc, ◌+◌, ◌-◌, ◌<◌, Bool, true, false, List, is_some, Some, None, Option, sym, refl, ap, ◌∙◌, add-zero, suc-add, zero-add, arith}
 use Rattle.machine.specs.declared.Instruction.{Instruction}
 use Rattle.machine.specs.declared.Mode.{Mode}
 use Rattle.machine.specs.declared.Mode.TheVariants.{Running, Ended}
@@ -54,28 +54,25 @@ next_is (Some u) s t e h = cc
 
 next_none : (o : Option State) (s t : State) → t ≡ or_same o s → false ≡ is_some o → (o ≡ None) × (t ≡ s)
 next_none None s t e h = (refl, e)
-next_none (Some u) s t e h = let z : ◌≡◌ {A = ℕ} 0 1 = cc in absurd (omega arith)
+next_none (Some u) s t e h = absurd cc
 
--- a step that a run makes
-pub runs_made : (a b : List Instruction) (budget steps : ℕ) (s t : State) → steps < budget → t ≡ or_same (next a b s) s → true ≡ is_some (next a b s) →
-    counted steps (runs a b (budget - steps) s) ≡ counted (steps + 1) (runs a b (budget - (steps + 1)) t)
-runs_made a b budget steps s t h e m =
-    let k : budget - steps ≡ suc (budget - (steps + 1)) = omega arith in
-    rw k (ap (counted steps) (one_step a b _ s t (next_is _ s t e m)) ∙ counted_more steps 1 _)
+-- a step that a run makes, where what is left of its budget is the rest of it
+pub run_goes_on : (a b : List Instruction) (budget made : ℕ) (s t : State) (run : Run) (stepped : Bool) →
+    counted made (runs a b (budget - made) s) ≡ run → made < budget → t ≡ or_same (next a b s) s → stepped ≡ is_some (next a b s) → stepped ≡ true →
+    counted (made + 1) (runs a b (budget - (made + 1)) t) ≡ run
+run_goes_on a b budget made s t run stepped e h after is stepping =
+    let k : budget - made ≡ suc (budget - (made + 1)) = omega arith in
+    let step : runs a b (budget - made) s ≡ counted 1 (runs a b (budget - (made + 1)) t) = rw k (one_step a b _ s t (next_is _ s t after (sym stepping ∙ is))) in
+    sym (ap (counted made) step ∙ counted_more made 1 _) ∙ e
 
 -- a run whose next step is not made
-pub runs_stop : (a b : List Instruction) (left : ℕ) (s t : State) → t ≡ or_same (next a b s) s → false ≡ is_some (next a b s) → runs a b left s ≡ record { last = t; steps = 0 }
-runs_stop a b left s t e m =
-    let k = next_none (next a b s) s t e m in
-    stopped_stays a b left s k.0 ∙ ap (λ (u : State). record { last = u; steps = 0 }) (sym k.1)
-
--- a run whose budget is used up
-pub runs_spent : (a b : List Instruction) (budget steps : ℕ) (s : State) → budget ≤ steps → runs a b (budget - steps) s ≡ record { last = s; steps = 0 }
-runs_spent a b budget steps s h = let k : budget - steps ≡ 0 = omega arith in rw k
-
--- the whole run, where what is left of it stops at once
-pub whole_run : (a b : List Instruction) (left steps : ℕ) (s t : State) (run : Run) → counted steps (runs a b left s) ≡ run → runs a b left s ≡ record { last = t; steps = 0 } → run ≡ record { last = t; steps = steps }
-whole_run a b left steps s t run e h = sym e ∙ ap (counted steps) h ∙ ap (λ (n : ℕ). record { last = t; steps = n }) (add-zero steps)
+pub run_stops : (a b : List Instruction) (left made : ℕ) (s t : State) (run : Run) (stepped : Bool) →
+    counted made (runs a b left s) ≡ run → t ≡ or_same (next a b s) s → stepped ≡ is_some (next a b s) → stepped ≡ false →
+    run ≡ record { last = t; steps = made }
+run_stops a b left made s t run stepped e after is stopped =
+    let k = next_none (next a b s) s t after (sym stopped ∙ is) in
+    sym e ∙ ap (counted made) (stopped_stays a b left s k.0) ∙ ap (λ (u : State). counted made (record { last = u; steps = 0 })) (sym k.1)
+    ∙ ap (λ (n : ℕ). record { last = t; steps = n }) (add-zero made)
 
 -- what a run that came to t in so many steps has besides
 

@@ -7,9 +7,6 @@ use Rattle.machine.specs.Machine.{Contents, State, effect, next, carried_out, on
 use Rattle.machine.specs.Laws.{and_then, effects, Holds, StraightLineComposes}
 use Rattle.machine.proofs.Runs.{counted_zero, counted_more, one_step}
 
-pub no_some : {P : Type 0} (y : Contents) → None ≡ Some y → P
-no_some y e = let z : ◌≡◌ {A = ℕ} 0 1 = cc in absurd (omega arith)
-
 -- an instruction with an effect goes on to the next
 carried_on : (side : Side) (n : ℕ) (x y : Contents) (i : Instruction) → effect i x ≡ Some y → carried_out side n x i ≡ Some (running side (n + 1) y)
 carried_on side n x y (Set d v) e = ap (onward side n) e
@@ -19,16 +16,16 @@ carried_on side n x y (Addi d s v) e = ap (onward side n) e
 carried_on side n x y (Sign d s) e = ap (onward side n) e
 carried_on side n x y (Load d b v w s) e = ap (onward side n) e
 carried_on side n x y (Store s b v w) e = ap (onward side n) e
-carried_on side n x y Call e = no_some y e
-carried_on side n x y Ret e = no_some y e
-carried_on side n x y Halt e = no_some y e
+carried_on side n x y Call e = cc
+carried_on side n x y Ret e = cc
+carried_on side n x y Halt e = cc
 
 pub next_effect : (a b : List Instruction) (side : Side) (n : ℕ) (x y : Contents) (i : Instruction) → slice_get (code_on side a b) n ≡ Some i → effect i x ≡ Some y → next a b (running side n x) ≡ Some (running side (n + 1) y)
 next_effect a b side n x y i f e = ap (fetches side n x) f ∙ carried_on side n x y i e
 
 -- what an effect leads to, where the rest has one
 pub split : (o : Option Contents) (f : Contents → Option Contents) (y : Contents) → and_then o f ≡ Some y → (z : Contents) × (o ≡ Some z) × (f z ≡ Some y)
-split None f y e = no_some y e
+split None f y e = cc
 split (Some z) f y e = (z, refl, e)
 
 same_run : (a b : List Instruction) (side : Side) (j k more n m : ℕ) (y : Contents) → j ≡ k → n ≡ m → counted j (runs a b more (running side n y)) ≡ counted k (runs a b more (running side m y))

@@ -22,11 +22,7 @@ fails_same b c P e f = (λ h. f.0 (sym e ∙ h), λ p. e ∙ f.1 p)
 
 fails_both : (b c : Bool) (P Q : Type 0) → Fails b P → Fails c Q → Fails (b && c) (P ⊎ Q)
 fails_both false c P Q f g = (λ h. inl (f.0 refl), λ p. refl)
-fails_both true c P Q f g = (λ h. inr (g.0 h), no_left)
-  where
-    no_left : P ⊎ Q → c ≡ false
-    no_left (inl p) = let z : true ≡ false = f.1 p in cc
-    no_left (inr q) = g.1 q
+fails_both true c P Q f g = (λ h. inr (g.0 h), λ p. elim p [ inl x ↦ cc (f.1 x) | inr y ↦ g.1 y ])
 
 fails_ok : (r : ℕ) → Fails (ok r) (31 < r)
 fails_ok r = (λ h. omega (arith, ltb-false r 32 h), λ p. le-ltb r 32 (omega arith))
@@ -76,7 +72,7 @@ carried_fails Caller n x Call = (λ h. cc, λ p. cc)
 carried_fails Callee n x Call = (λ h. refl, λ p. refl)
 carried_fails Caller n x Ret = (λ h. refl, λ p. refl)
 carried_fails Callee n x Ret = (λ h. cc, λ p. cc)
-carried_fails side n x Halt = (λ h. let z : ◌≡◌ {A = ℕ} 0 1 = cc in omega arith, λ p. absurd p)
+carried_fails side n x Halt = (λ h. cc, λ p. absurd p)
 
 running_fails : (side : Side) (n : ℕ) (x : Contents) (o : Option Instruction) → Fails (is_some (fetches side n x o)) (IfSome o (CannotBeDone side x))
 running_fails side n x None = (λ h. tt, λ p. refl)
@@ -91,7 +87,7 @@ mode_stuck a b (Running side n) x o e =
     let f = running_fails side n x (slice_get (code_on side a b) n) in
     let g = outcome_none side n (fetches side n x (slice_get (code_on side a b) n)) in
     (λ h. f.0 (g.0 (sym e ∙ h)), λ p. e ∙ g.1 (f.1 p))
-mode_stuck a b Ended x o e = (λ h. let z : ◌≡◌ {A = ℕ} 0 1 = cc in omega arith, λ p. absurd p)
+mode_stuck a b Ended x o e = (λ h. cc, λ p. absurd p)
 
 pub stuck_exactly_where : (a b : List Instruction) (t : State) (o : Outcome) → o ≡ outcome_of a b t → StuckExactlyWhere a b t o
 stuck_exactly_where a b t o e = mode_stuck a b t.mode t.contents o e

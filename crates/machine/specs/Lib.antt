@@ -1,3 +1,4 @@
 pub mod Machine
 pub mod Fetch
 pub mod Laws
+pub mod Text

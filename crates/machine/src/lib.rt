@@ -1,14 +1,15 @@
 // A register machine: 32 registers of 32 bits, a memory of bytes that is lent to it, and two lists of instructions.
 #![tactic(auto)]
 
-ghost use Rattle.std.specs.Prelude.{◌≡◌, ◌+◌, ◌-◌, ◌^◌, ◌<◌, ◌≤◌, true, length, is_some, IfOk, if◌then◌else◌, Some, None, OnErr, OnOk, OnSome, nat_lt, ◌&&◌};
-ghost use Rattle.std.specs.List.{slice_get};
+ghost use Rattle.std.specs.Prelude.{◌≡◌, ◌+◌, ◌-◌, ◌^◌, ◌<◌, ◌≤◌, true, length, is_some, IfOk, if◌then◌else◌, Some, None, OnErr, OnOk, OnSome, nat_lt};
 ghost use Rattle.machine.specs.Machine.{ok, reg, address, bytes_of, loaded, stored, sign_of, contents_of, state_of, effect, next, or_same, instruction_at, runs, outcome_of, fault_in};
 ghost use Rattle.machine.specs.Fetch.{carried, LeadsTo, index_of};
 ghost use Rattle.machine.specs.Laws.{OnlyWritten, LargerBudgetGoesOn, StoppedStays, SpentUsesUpBudget, StuckExactlyWhere, StraightLineComposes, CallOfStraightLinesEnds};
 
+mod text;
+
 // How many bytes LOAD and STORE move.
-#[derive(Clone, Copy)]
+#[derive(Clone, Copy, PartialEq, Eq, Debug)]
 pub enum Width {
     One,
     Two,
@@ -16,7 +17,7 @@ pub enum Width {
 }
 
 // A register is a number below 32; an instruction that names another one cannot be done.
-#[derive(Clone, Copy)]
+#[derive(Clone, Copy, PartialEq, Eq, Debug)]
 pub enum Instruction {
     Set {
         d: u8,
@@ -86,7 +87,14 @@ pub enum RunFault {
     MemoryTooLarge,
 }
 
-#[derive(Clone, Copy)]
+// The two lists that a machine goes through.
+#[derive(Clone, Copy, PartialEq, Eq, Debug)]
+pub struct Program<'c, 'd> {
+    pub caller: &'c [Instruction],
+    pub callee: &'d [Instruction],
+}
+
+#[derive(Clone, Copy, PartialEq, Eq, Debug)]
 pub struct Machine {
     pub registers: [u32; 32],
     pub mode: Mode,
@@ -96,7 +104,7 @@ pub struct Machine {
 pub const MEMORY_LIMIT: usize = 65_536;
 
 impl Width {
-    fn bytes(self) -> usize
+    pub fn bytes(self) -> usize
         ensures bytes_of_the_width { result ≡ bytes_of self }
     {
         match self {
@@ -112,13 +120,9 @@ fn place(base: u32, i: i16, count: usize, size: usize) -> Option<usize>
     requires { count ≤ 4 }
     ensures index_of_the_sum_where_all_bytes_lie_inside { result ≡ address base i count size }
 {
-    // Wide enough that the sum does not wrap.
-    let at = i64::from(base) + i64::from(i);
-    if at < 0 {
-        return None;
-    }
-    let at = at as usize;
-    if at + count <= size { Some(at) } else { None }
+    (base as usize)
+        .checked_add_signed(isize::from(i))
+        .filter(|at| at + count <= size)
 }
 
 fn sign(v: u32) -> u32
@@ -131,24 +135,14 @@ fn load(memory: &[u8], at: usize, width: Width, signed: bool) -> u32
     requires { at + bytes_of width ≤ length memory.now }
     ensures value_of_the_bytes_as_marked { result ≡ loaded memory.now at width signed }
 {
-    match width {
-        Width::One => {
-            let v = u32::from(memory[at]);
-            if signed && v >= 0x80 {
-                v + 0xFFFF_FF00
-            } else {
-                v
-            }
+    match (width, signed) {
+        (Width::One, false) => u32::from(memory[at]),
+        (Width::One, true) => i32::from(memory[at].cast_signed()).cast_unsigned(),
+        (Width::Two, false) => u32::from(u16::from_le_bytes([memory[at], memory[at + 1]])),
+        (Width::Two, true) => {
+            i32::from(i16::from_le_bytes([memory[at], memory[at + 1]])).cast_unsigned()
         }
-        Width::Two => {
-            let v = u32::from(memory[at]) + 256 * u32::from(memory[at + 1]);
-            if signed && v >= 0x8000 {
-                v + 0xFFFF_0000
-            } else {
-                v
-            }
-        }
-        Width::Four => {
+        (Width::Four, _) => {
             u32::from_le_bytes([memory[at], memory[at + 1], memory[at + 2], memory[at + 3]])
         }
     }
@@ -158,28 +152,8 @@ fn store(memory: &mut [u8], at: usize, width: Width, v: u32)
     requires { at + bytes_of width ≤ length memory.old }
     ensures lowest_bytes_are_stored_and_no_other { memory.new ≡ stored memory.old at (bytes_of width) v }
 {
-    let [b0, b1, b2, b3] = v.to_le_bytes();
-    memory[at] = b0;
-    match width {
-        Width::One => {}
-        Width::Two => memory[at + 1] = b1,
-        Width::Four => {
-            memory[at + 1] = b1;
-            memory[at + 2] = b2;
-            memory[at + 3] = b3;
-        }
-    }
-}
-
-fn at_index(code: &[Instruction], at: usize) -> Option<Instruction>
-    ensures instruction_at_the_index { result ≡ slice_get code.now at }
-    ensures next_index_fits { OnSome result (at < 2 ^ 64 - 1) }
-{
-    if at < code.len() {
-        Some(code[at])
-    } else {
-        None
-    }
+    let count = width.bytes();
+    memory[at..at + count].copy_from_slice(&v.to_le_bytes()[..count]);
 }
 
 impl Machine {
@@ -194,11 +168,15 @@ impl Machine {
         }
     }
 
-    // Whether LOAD and STORE have a place at register `b`'s value plus `i`.
-    fn reaches(&self, memory: &[u8], b: u8, i: i16, width: Width) -> bool
-        ensures whether_the_register_exists_and_all_bytes_lie_inside { result ≡ (ok b && is_some (address (reg (contents_of self.now memory.now) b) i (bytes_of width) (length memory.now))) }
+    // The memory index of LOAD and STORE at register `b`'s value plus `i`.
+    fn reached(&self, memory: &[u8], b: u8, i: i16, width: Width) -> Option<usize>
+        ensures index_where_the_register_exists_and_all_bytes_lie_inside { result ≡ (if ok b then address (reg (contents_of self.now memory.now) b) i (bytes_of width) (length memory.now) else None) }
     {
-        b < 32 && place(self.registers[b as usize], i, width.bytes(), memory.len()).is_some()
+        if b < 32 {
+            place(self.registers[b as usize], i, width.bytes(), memory.len())
+        } else {
+            None
+        }
     }
 
     // Whether an instruction can be done in this mode, with these registers and this memory.
@@ -214,10 +192,12 @@ impl Machine {
             Instruction::Mov { d, s }
             | Instruction::Addi { d, s, .. }
             | Instruction::Sign { d, s } => d < 32 && s < 32,
-            Instruction::Load { d, b, i, width, .. } => d < 32 && self.reaches(memory, b, i, width),
-            Instruction::Store { s, b, i, width } => s < 32 && self.reaches(memory, b, i, width),
-            Instruction::Call => matches!(side, Side::Caller),
-            Instruction::Ret => matches!(side, Side::Callee),
+            Instruction::Load { d, b, i, width, .. } => d < 32
+                && self.reached(memory, b, i, width).is_some(),
+            Instruction::Store { s, b, i, width } => s < 32
+                && self.reached(memory, b, i, width).is_some(),
+            Instruction::Call => side == Side::Caller,
+            Instruction::Ret => side == Side::Callee,
             Instruction::Halt => true,
         }
     }
@@ -237,9 +217,9 @@ impl Machine {
                 );
             }
             Instruction::Addi { d, s, i } => {
-                self.registers[d as usize] = self.registers[s as usize].wrapping_add(i32::from(
-                    i,
-                ).cast_unsigned());
+                self.registers[d as usize] = self.registers[s as usize].wrapping_add_signed(
+                    i32::from(i),
+                );
             }
             Instruction::Sign { d, s } => {
                 self.registers[d as usize] = sign(self.registers[s as usize]);
@@ -251,11 +231,11 @@ impl Machine {
                 width,
                 signed,
             } => {
-                let at = place(self.registers[b as usize], i, width.bytes(), memory.len()).unwrap();
+                let at = self.reached(memory, b, i, width).unwrap();
                 self.registers[d as usize] = load(memory, at, width, signed);
             }
             Instruction::Store { s, b, i, width } => {
-                let at = place(self.registers[b as usize], i, width.bytes(), memory.len()).unwrap();
+                let at = self.reached(memory, b, i, width).unwrap();
                 store(memory, at, width, self.registers[s as usize]);
             }
             // These do not go on to the next one: `step` carries them out.
@@ -264,39 +244,29 @@ impl Machine {
     }
 
     // The instruction that the machine comes to, where it is there and can be done.
-    fn fetch(
-        &self,
-        memory: &[u8],
-        caller: &[Instruction],
-        callee: &[Instruction],
-    ) -> Option<Instruction>
-        ensures leads_to_the_next_state { LeadsTo result self.now.mode (contents_of self.now memory.now) (next caller.now callee.now (state_of self.now memory.now)) }
+    fn fetch(&self, memory: &[u8], program: Program) -> Option<Instruction>
+        ensures leads_to_the_next_state { LeadsTo result self.now.mode (contents_of self.now memory.now) (next program.entry.caller.now program.entry.callee.now (state_of self.now memory.now)) }
         ensures next_index_fits { OnSome result (index_of self.now.mode < 2 ^ 64 - 1) }
     {
-        let instruction = match self.mode {
-            Mode::Running(Side::Caller, at) => at_index(caller, at)?,
-            Mode::Running(Side::Callee, at) => at_index(callee, at)?,
-            Mode::Ended => return None,
+        let Mode::Running(side, at) = self.mode else {
+            return None;
         };
-        if self.can_do(memory, instruction) {
-            Some(instruction)
-        } else {
-            None
-        }
+        let code = match side {
+            Side::Caller => program.caller,
+            Side::Callee => program.callee,
+        };
+        code.get(at)
+            .copied()
+            .filter(|instruction| self.can_do(memory, *instruction))
     }
 
     // Makes one step in place; false, with nothing changed, where the machine has ended or is stuck.
-    pub fn step(
-        &mut self,
-        memory: &mut [u8],
-        caller: &[Instruction],
-        callee: &[Instruction],
-    ) -> bool
-        ensures state_after_is_the_next_or_the_same { state_of self.new memory.new ≡ or_same (next caller.now callee.now (state_of self.old memory.old)) (state_of self.old memory.old) }
-        ensures answers_whether_there_is_a_next_state { result ≡ is_some (next caller.now callee.now (state_of self.old memory.old)) }
-        ensures what_the_instruction_does_not_write_stays { OnlyWritten (instruction_at self.old.mode caller.now callee.now) (contents_of self.old memory.old) (contents_of self.new memory.new) }
+    pub fn step(&mut self, memory: &mut [u8], program: Program) -> bool
+        ensures state_after_is_the_next_or_the_same { state_of self.new memory.new ≡ or_same (next program.entry.caller.now program.entry.callee.now (state_of self.old memory.old)) (state_of self.old memory.old) }
+        ensures answers_whether_there_is_a_next_state { result ≡ is_some (next program.entry.caller.now program.entry.callee.now (state_of self.old memory.old)) }
+        ensures what_the_instruction_does_not_write_stays { OnlyWritten (instruction_at self.old.mode program.entry.caller.now program.entry.callee.now) (contents_of self.old memory.old) (contents_of self.new memory.new) }
     {
-        let fetched = self.fetch(memory, caller, callee);
+        let fetched = self.fetch(memory, program);
         match (self.mode, fetched) {
             (Mode::Running(_, at), Some(Instruction::Call)) => {
                 // An index may need more than 32 bits: r30 takes the low ones.
@@ -316,11 +286,23 @@ impl Machine {
         true
     }
 
-    // How a run that stops here came out.
-    fn outcome(&self, memory: &[u8], caller: &[Instruction], callee: &[Instruction]) -> Outcome
-        ensures outcome_of_this_state { result ≡ outcome_of caller.now callee.now (state_of self.now memory.now) }
+    // Steps until none can be made or `budget` of them are; the steps made.
+    fn advance(&mut self, memory: &mut [u8], program: Program, budget: usize) -> usize
+        ensures last_state_and_steps_are_those_of_the_run { runs program.entry.caller.now program.entry.callee.now budget (state_of self.old memory.old) ≡ record { last = state_of self.new memory.new; steps = result } }
     {
-        let fetched = self.fetch(memory, caller, callee);
+        for made in 0..budget {
+            if !self.step(memory, program) {
+                return made;
+            }
+        }
+        budget
+    }
+
+    // How a run that stops here came out.
+    fn outcome(&self, memory: &[u8], program: Program) -> Outcome
+        ensures outcome_of_this_state { result ≡ outcome_of program.entry.caller.now program.entry.callee.now (state_of self.now memory.now) }
+    {
+        let fetched = self.fetch(memory, program);
         match (self.mode, fetched) {
             (Mode::Ended, _) => Outcome::Ended,
             (Mode::Running(_, _), None) => Outcome::Stuck,
@@ -332,29 +314,25 @@ impl Machine {
     pub fn run(
         &mut self,
         memory: &mut [u8],
-        caller: &[Instruction],
-        callee: &[Instruction],
+        program: Program,
         budget: usize,
     ) -> Result<(Outcome, usize), RunFault>
         ensures refuses_with_fault_51_at_0_where_memory_is_too_large { fault_in result ≡ (if nat_lt 65536 (length memory.old) then Some (51, 0) else None) }
         ensures a_refusal_changes_nothing { OnErr result (state_of self.new memory.new ≡ state_of self.old memory.old) }
-        ensures state_after_is_the_last_of_the_run { OnOk result (state_of self.new memory.new ≡ (runs caller.now callee.now budget (state_of self.old memory.old)).last) }
-        ensures outcome_is_that_of_the_last_state { IfOk result (λ a. a.0 ≡ outcome_of caller.now callee.now (runs caller.now callee.now budget (state_of self.old memory.old)).last) }
-        ensures steps_are_those_of_the_run { IfOk result (λ a. a.1 ≡ (runs caller.now callee.now budget (state_of self.old memory.old)).steps) }
-        ensures a_larger_budget_goes_on_from_here { IfOk result (λ a. LargerBudgetGoesOn caller.now callee.now budget (state_of self.old memory.old) (state_of self.new memory.new) a.1) }
-        ensures an_ended_or_stuck_machine_stays_in_0_steps { IfOk result (λ a. StoppedStays caller.now callee.now (state_of self.old memory.old) (state_of self.new memory.new) a.1) }
-        ensures spent_means_budget_used_up_and_still_running { IfOk result (λ a. SpentUsesUpBudget caller.now callee.now budget (state_of self.new memory.new) a.0 a.1) }
-        ensures stuck_exactly_where_the_next_instruction_is_missing_or_cannot_be_done { IfOk result (λ a. StuckExactlyWhere caller.now callee.now (state_of self.new memory.new) a.0) }
-        ensures straight_line_code_composes { IfOk result (λ a. StraightLineComposes caller.now callee.now budget (state_of self.old memory.old) (state_of self.new memory.new) a.1) }
-        ensures a_call_of_straight_line_code_ends { IfOk result (λ a. CallOfStraightLinesEnds caller.now callee.now budget (state_of self.old memory.old) (state_of self.new memory.new) a.1) }
+        ensures state_after_is_the_last_of_the_run { OnOk result (state_of self.new memory.new ≡ (runs program.entry.caller.now program.entry.callee.now budget (state_of self.old memory.old)).last) }
+        ensures outcome_is_that_of_the_last_state { IfOk result (λ a. a.0 ≡ outcome_of program.entry.caller.now program.entry.callee.now (runs program.entry.caller.now program.entry.callee.now budget (state_of self.old memory.old)).last) }
+        ensures steps_are_those_of_the_run { IfOk result (λ a. a.1 ≡ (runs program.entry.caller.now program.entry.callee.now budget (state_of self.old memory.old)).steps) }
+        ensures a_larger_budget_goes_on_from_here { IfOk result (λ a. LargerBudgetGoesOn program.entry.caller.now program.entry.callee.now budget (state_of self.old memory.old) (state_of self.new memory.new) a.1) }
+        ensures an_ended_or_stuck_machine_stays_in_0_steps { IfOk result (λ a. StoppedStays program.entry.caller.now program.entry.callee.now (state_of self.old memory.old) (state_of self.new memory.new) a.1) }
+        ensures spent_means_budget_used_up_and_still_running { IfOk result (λ a. SpentUsesUpBudget program.entry.caller.now program.entry.callee.now budget (state_of self.new memory.new) a.0 a.1) }
+        ensures stuck_exactly_where_the_next_instruction_is_missing_or_cannot_be_done { IfOk result (λ a. StuckExactlyWhere program.entry.caller.now program.entry.callee.now (state_of self.new memory.new) a.0) }
+        ensures straight_line_code_composes { IfOk result (λ a. StraightLineComposes program.entry.caller.now program.entry.callee.now budget (state_of self.old memory.old) (state_of self.new memory.new) a.1) }
+        ensures a_call_of_straight_line_code_ends { IfOk result (λ a. CallOfStraightLinesEnds program.entry.caller.now program.entry.callee.now budget (state_of self.old memory.old) (state_of self.new memory.new) a.1) }
     {
         if memory.len() > MEMORY_LIMIT {
             return Err(RunFault::MemoryTooLarge);
         }
-        let mut steps = 0;
-        while steps < budget && self.step(memory, caller, callee) {
-            steps += 1;
-        }
-        Ok((self.outcome(memory, caller, callee), steps))
+        let steps = self.advance(memory, program, budget);
+        Ok((self.outcome(memory, program), steps))
     }
 }

@@ -3,11 +3,15 @@
 
 #[cfg(test)]
 mod tests {
-    use machine::{Instruction, Machine, Mode, Outcome, RunFault, Side, Width};
+    use machine::{Instruction, Machine, Mode, Outcome, Program, RunFault, Side, Width};
     use std::process::Abort;
     use std::test::Fail;
 
     const BYTES: [u8; 8] = [0x7F, 0x80, 0xFF, 0x7F, 0x00, 0x80, 0x34, 0x12];
+
+    fn program<'c, 'd>(caller: &'c [Instruction], callee: &'d [Instruction]) -> Program<'c, 'd> {
+        Program { caller, callee }
+    }
 
     fn addi(i: i16) -> Instruction {
         Instruction::Addi { d: 3, s: 1, i }
@@ -53,19 +57,16 @@ mod tests {
         registers[2] = r2;
         let mut memory = BYTES;
         let mut machine = Machine::new(registers);
-        let (outcome, steps) = machine.run(
+        let ran = machine.run(
             &mut memory,
-            &[instruction, Instruction::Halt],
-            &[],
+            program(&[instruction, Instruction::Halt], &[]),
             10,
         )?;
         if let Some(value) = r3 {
             registers[3] = value;
-            assert_eq!(rt; outcome, Outcome::Ended);
-            assert_eq!(rt; steps, 2);
+            assert_eq!(rt; ran, (Outcome::Ended, 2));
         } else {
-            assert_eq!(rt; outcome, Outcome::Stuck);
-            assert_eq!(rt; steps, 0);
+            assert_eq!(rt; ran, (Outcome::Stuck, 0));
             assert_eq!(rt; machine.mode, in_caller(0));
         }
         assert!(rt; machine.registers == registers);
@@ -182,7 +183,7 @@ mod tests {
             registers[2] = 0xABCD_5678;
             let mut memory = BYTES;
             let mut machine = Machine::new(registers);
-            assert!(rt; machine.step(&mut memory, &[instruction], &[]));
+            assert!(rt; machine.step(&mut memory, program(&[instruction], &[])));
             assert!(rt; memory == bytes);
             assert!(rt; machine.registers == registers);
         }
@@ -202,7 +203,7 @@ mod tests {
         };
         for budget in [steps.saturating_sub(1), steps, 100] {
             let mut machine = Machine::new([0; 32]);
-            let (outcome, made) = machine.run(&mut [], &caller, &callee, budget)?;
+            let (outcome, made) = machine.run(&mut [], program(&caller, &callee), budget)?;
             assert_eq!(rt; made, budget.min(steps));
             if budget < steps {
                 assert_eq!(rt; outcome, Outcome::Spent);
@@ -248,7 +249,7 @@ mod tests {
         let mut memory = vec![in rt.alloc(); 0u8; 65_536]?;
         let mut machine = Machine::new(registers);
         assert_eq!(rt;
-            machine.run(&mut memory, &code, &[], 2),
+            machine.run(&mut memory, program(&code, &[]), 2),
             Ok((Outcome::Stuck, 2))
         );
         assert!(rt; memory.len() == 65_536 && memory[65_535] == 1);
@@ -256,11 +257,10 @@ mod tests {
         memory.push(0)?;
         let mut machine = Machine::new(registers);
         assert_eq!(rt;
-            machine.run(&mut memory, &code, &[], 2),
+            machine.run(&mut memory, program(&code, &[]), 2),
             Err(RunFault::MemoryTooLarge)
         );
-        assert!(rt; machine.registers == registers);
-        assert_eq!(rt; machine.mode, in_caller(0));
+        assert_eq!(rt; machine, Machine::new(registers));
         Ok(())
     }
 }

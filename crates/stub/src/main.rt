@@ -11,7 +11,8 @@ use banks::count::Count;
 use blocks::up::Up;
 use conditions::Test;
 use histories::plays::play;
-use machine::{Instruction, Machine, Outcome, Width};
+use machine::{Instruction, Machine, Program, Width};
+use place::pieces::Place;
 use shut::Shut;
 use sides::choose::Choose;
 use sides::over::Over;
@@ -20,9 +21,9 @@ use values::kinds::Kind;
 use values::sizes::Size;
 use values::value_type::ValueType;
 
-// One value's place: its pieces, or that it was refused.
-fn show_place<S: Stage>(rt: &HostRuntime, pile: &mut S, value: ValueType) -> anyhow::Result<()> {
-    match pile.place(value.request()) {
+// What a value is answered: its place, or that it was refused.
+fn show_answer<E: Drop>(rt: &HostRuntime, answer: Result<Place, E>) -> anyhow::Result<()> {
+    match answer {
         Ok(place) => print!(rt; "{place}; ")?,
         Err(_) => print!(rt; "refused; ")?,
     }
@@ -33,7 +34,8 @@ fn show_place<S: Stage>(rt: &HostRuntime, pile: &mut S, value: ValueType) -> any
 fn show<S: Stage + Drop>(rt: &HostRuntime, mut pile: S, signature: &str) -> anyhow::Result<()> {
     print!(rt; "{signature}: ")?;
     for word in signature.split(' ') {
-        show_place(rt, &mut pile, ValueType::try_from(word.as_bytes())?)?;
+        let value = ValueType::try_from(word.as_bytes())?;
+        show_answer(rt, pile.place(value.request()))?;
     }
     let block = Size::Eight.round_up(pile.reach());
     println!(rt; "block {block}")?;
@@ -65,10 +67,7 @@ fn show_side<P: Stage + Drop>(
 ) -> anyhow::Result<()> {
     print!(rt; "{side}: ")?;
     for width in [4, 8, 4] {
-        match allocation.place(Asked::aligned(Kind::Unsigned, width)) {
-            Ok(place) => print!(rt; "{place}; ")?,
-            Err(_) => print!(rt; "refused; ")?,
-        }
+        show_answer(rt, allocation.place(Asked::aligned(Kind::Unsigned, width)))?;
     }
     let held = allocation.held().len();
     println!(rt; "held {held}")?;
@@ -93,21 +92,16 @@ fn show_sides(rt: &HostRuntime) -> anyhow::Result<()> {
     show_side(rt, "core after two other rounds", core)
 }
 
-fn show_registers(rt: &HostRuntime, registers: &[u32; 32]) -> anyhow::Result<()> {
-    for (r, value) in registers.iter().enumerate() {
-        if *value != 0 {
-            let value = *value;
-            print!(rt; "; r{r} {value}")?;
-        }
-    }
-    Ok(())
-}
-
-fn show_bytes(rt: &HostRuntime, memory: &[u8]) -> anyhow::Result<()> {
-    for (a, byte) in memory.iter().enumerate() {
-        if *byte != 0 {
-            let byte = *byte;
-            print!(rt; "; byte {a} {byte}")?;
+// Each value that is not 0, with its number behind a label.
+fn show_filled<T: Copy + Into<u32>>(
+    rt: &HostRuntime,
+    label: &str,
+    values: &[T],
+) -> anyhow::Result<()> {
+    for (n, value) in values.iter().enumerate() {
+        let value: u32 = (*value).into();
+        if value != 0 {
+            print!(rt; "; {label}{n} {value}")?;
         }
     }
     Ok(())
@@ -133,17 +127,16 @@ fn show_call(rt: &HostRuntime) -> anyhow::Result<()> {
     let callee = [Instruction::Addi { d: 0, s: 0, i: 47 }, Instruction::Ret];
     let mut memory = [0; 128];
     let mut machine = Machine::new([0; 32]);
-    let Ok((outcome, steps)) = machine.run(&mut memory, &caller, &callee, 100) else {
+    let program = Program {
+        caller: &caller,
+        callee: &callee,
+    };
+    let Ok((outcome, steps)) = machine.run(&mut memory, program, 100) else {
         return Err(anyhow!("the memory is too large"));
     };
-    let word = match outcome {
-        Outcome::Ended => "ended",
-        Outcome::Stuck => "stuck",
-        Outcome::Spent => "spent",
-    };
-    print!(rt; "call: {word} after {steps} steps")?;
-    show_registers(rt, &machine.registers)?;
-    show_bytes(rt, &memory)?;
+    print!(rt; "call: {outcome} after {steps} steps")?;
+    show_filled(rt, "r", &machine.registers)?;
+    show_filled(rt, "byte ", &memory)?;
     println!(rt; "")?;
     Ok(())
 }
