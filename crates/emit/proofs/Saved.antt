@@ -5,7 +5,7 @@ use Rattle.std.specs.Iterator.{Yields}
 use Rattle.std.proofs.lemmas.Iterator.{YieldsList}
 use Rattle.std.proofs.lemmas.Iterator.Consumers.{YieldsList-turn, YieldsList-end}
 use Rattle.std.proofs.lemmas.List.Sums.{length-filter, count_by-le-length}
-use Rattle.std.proofs.lemmas.Bool.{cases_Bool, eqb-true, eq-eqb}
+use Rattle.std.proofs.lemmas.Bool.{cases_Bool, both_ways, false_from_ne_true, and_right, eqb-true, eq-eqb}
 use Rattle.std.proofs.lemmas.List.{map-id}
 use Rattle.std.proofs.lemmas.List.FromFn.{filter_of_map_range_with_len_more, length-range_with_len, length-enumerate_from, get_or-enumerate_from}
 use Rattle.machine.specs.declared.Instruction.{Instruction}
@@ -25,29 +25,22 @@ same_test true b f g = sym (f refl)
 same_test false true f g = g refl
 same_test false false f g = refl
 
-true_not_false : true ≡ false → ⊥
-true_not_false e = cc
-
 or_false : (b : Bool) → (b || false) ≡ b
 or_false true = refl
 or_false false = refl
-
-and_false : (b : Bool) → (b && false) ≡ false
-and_false true = refl
-and_false false = refl
 
 has_with : (set d r : ℕ) → r < 32 → has (with set d) r ≡ (has set r || (d == r))
 has_with set d r h =
     elim (cases_Bool (has set r)) [
       | inl t ↦ with_others set d r t ∙ sym (ap (λ (b : Bool). b || (d == r)) t)
       | inr f ↦
-          let only : has (with set d) r ≡ true → (d == r) ≡ true = λ t. elim (with_cases set d r t) [ inl a ↦ absurd (true_not_false (sym a ∙ f)) | inr e ↦ eq-eqb d r e ] in
+          let only : has (with set d) r ≡ true → (d == r) ≡ true = λ t. elim (with_cases set d r t) [ inl a ↦ absurd (both_ways (has set r) f a) | inr e ↦ eq-eqb d r e ] in
           let it : (d == r) ≡ true → has (with set d) r ≡ true = λ q. ap (λ (x : ℕ). has (with set x) r) (eqb-true d r q) ∙ with_itself set r h in
           same_test (has (with set d) r) (d == r) only it ∙ sym (ap (λ (b : Bool). b || (d == r)) f)
     ]
 
 has_none : (r : ℕ) → has 0 r ≡ false
-has_none r = elim (cases_Bool (has 0 r)) [ inl t ↦ absurd (none_in_empty r t) | inr f ↦ f ]
+has_none r = false_from_ne_true (has 0 r) (none_in_empty r)
 
 or_assoc : (a b c : Bool) → ((a || b) || c) ≡ (a || (b || c))
 or_assoc true b c = refl
@@ -90,7 +83,7 @@ one_more_kept kept r None ds w e = e
 one_more_kept kept r (Some d) ds w e = any_kept r d (has kept d) (filter (has kept) ds) ∙ kept_test (has kept r) (has kept d) (d == r) w _ e (λ q. ap (has kept) (eqb-true d r q))
 
 kept_and_written : (kept r : ℕ) (body : List Instruction) → list_any (λ d. d == r) (filter (has kept) (filter_map destination body)) ≡ (has kept r && written r body)
-kept_and_written kept r [] = sym (and_false (has kept r))
+kept_and_written kept r [] = sym (and_right (has kept r) false refl)
 kept_and_written kept r (x ∷ xs) = one_more_kept kept r (destination x) (filter_map destination xs) (written r xs) (kept_and_written kept r xs) ∙ ap (λ (b : Bool). has kept r && (b || written r xs)) (sym (writes_is r x))
 
 module _ (kept : ℕ) (body : List Instruction) (set : ℕ) (agrees : (r : ℕ) → r < 32 → has set r ≡ (has kept r && written r body)) where

@@ -12,10 +12,7 @@ goes_on : (t : Bool) (o : Option ℕ) (i : ℕ) → cond t o (Some i) ≡ None �
 goes_on t o i e =
     elim (cases_Bool t) [
       | inl h ↦ (h, sym (cond-true t o (Some i) h) ∙ e)
-      | inr h ↦
-          let some : Some i ≡ None = sym (cond-false t o (Some i) h) ∙ e in
-          let never : ◌≡◌ {A = ℕ} 0 1 = cc in
-          absurd (omega arith)
+      | inr h ↦ let some : Some i ≡ None = sym (cond-false t o (Some i) h) ∙ e in absurd (cc)
     ]
 
 -- a body with no fault from an index on ends by 256

@@ -1,5 +1,5 @@
 // What forbids the code of a call.
-ghost use Rattle.std.specs.Prelude.{◌≡◌, map, length, None, nat_lt};
+ghost use Rattle.std.specs.Prelude.{◌≡◌, map, length, None};
 ghost use Rattle.allocation.specs.States.{state, holding};
 ghost use Rattle.delivery.specs.Bodies.{body_fault};
 ghost use Rattle.place.specs.Pieces.{in_block, low_piece};
@@ -30,17 +30,11 @@ fn any_in_block(held: &[Held]) -> bool
     held.iter().any(|h| lies_in_block(h.place))
 }
 
-fn too_many(results: usize) -> bool
-    ensures more_than_four { result ≡ nat_lt 4 results }
-{
-    results > 4
-}
-
 // Whether results cannot travel so: more than four, or one in the block.
 fn results_forbidden(held: &[Held]) -> bool
     ensures more_than_four_or_one_in_the_block { result ≡ results_forbidden (map holding held.now) }
 {
-    too_many(held.len()) || any_in_block(held)
+    held.len() > 4 || any_in_block(held)
 }
 
 // Whether a kept register is above r27, or in one of the sets.

@@ -41,7 +41,7 @@ pub(crate) fn count_saved(saved: RegisterSet) -> u32
     (0..28).filter(|r| saved.contains(*r)).count() as u32
 }
 
-// What is done with saved registers and their words.
+// What is done with saved registers and their words. An enum, since a chain with a closure gets no proof in a generic function.
 #[derive(Clone, Copy)]
 pub(crate) enum WordMove {
     Save,
