@@ -11,7 +11,7 @@ use crate::instructions::{stack_down, stack_up};
 use crate::places::{CopyFrom, Fill, put_each};
 use crate::records::Records;
 use crate::saving::{WordMove, count_saved, put_saved, saved_registers};
-use crate::side::{Side, size, write};
+use crate::side::{SideCode, size, write};
 use allocation::frozen::Frozen;
 use machine::Instruction;
 use place::registers::RegisterSet;
@@ -35,7 +35,7 @@ impl<P: Stage, Q: Stage> Callee<'_, P, Q> {
     }
 }
 
-impl<P: Stage, Q: Stage> Side for Callee<'_, P, Q> {
+impl<P: Stage, Q: Stage> SideCode for Callee<'_, P, Q> {
     ghost code = { λ c. callee_code (state P.Stage c.arguments.now.allocation).held (state Q.Stage c.results.now.allocation).held c.kept.bits c.body.now };
 
     ghost bytes = { λ c. frame_bytes (state P.Stage c.arguments.now.allocation).held (state Q.Stage c.results.now.allocation).held (saved c.kept.bits c.body.now) };
@@ -61,11 +61,11 @@ impl<P: Stage, Q: Stage> Side for Callee<'_, P, Q> {
         let arguments = self.arguments.held();
         let result_homes = 8 * arguments.len() as u32;
         records.put(stack_down(frame));
-        put_saved(records, saved, words, WordMove::Save);
+        put_saved(WordMove::Save, records, saved, words);
         put_each(&CopyFrom { block: frame }, records, arguments, 0);
         records.put_all(self.body);
         put_each(&Fill, records, self.results.held(), result_homes);
-        put_saved(records, saved, words, WordMove::Restore);
+        put_saved(WordMove::Restore, records, saved, words);
         records.put(stack_up(frame));
         records.put(Instruction::Ret);
     }

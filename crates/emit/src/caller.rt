@@ -9,7 +9,7 @@ use crate::faults::CodeFault;
 use crate::instructions::{stack_down, stack_up};
 use crate::places::{Fill, Store, put_each};
 use crate::records::Records;
-use crate::side::{Side, size, write};
+use crate::side::{SideCode, size, write};
 use allocation::frozen::Frozen;
 use machine::Instruction;
 use place::registers::RegisterSet;
@@ -23,7 +23,7 @@ struct Caller<'a, P, Q> {
     kept: RegisterSet,
 }
 
-impl<P: Stage, Q: Stage> Side for Caller<'_, P, Q> {
+impl<P: Stage, Q: Stage> SideCode for Caller<'_, P, Q> {
     ghost code = { λ c. caller_code (state P.Stage c.arguments.now.allocation).held (state Q.Stage c.results.now.allocation).held (block_bytes (state P.Stage c.arguments.now.allocation)) };
 
     ghost bytes = { λ c. block_bytes (state P.Stage c.arguments.now.allocation) };

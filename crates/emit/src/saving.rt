@@ -60,7 +60,7 @@ impl WordMove {
 }
 
 // Saved registers whose words lie one after the other, the first at `home`.
-pub(crate) fn put_saved(records: &mut Records, saved: RegisterSet, home: u32, way: WordMove)
+pub(crate) fn put_saved(way: WordMove, records: &mut Records, saved: RegisterSet, home: u32)
     requires room { records.old.len < 2 ^ 29 }
     requires near { home ≤ 90000 }
     ensures code_for_each_register { Appends (each_word (word_code way) (members saved.bits) home) records.old records.new }

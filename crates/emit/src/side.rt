@@ -9,7 +9,7 @@ use crate::faults::CodeFault;
 use crate::records::Records;
 use machine::Instruction;
 
-pub(crate) trait Side {
+pub(crate) trait SideCode {
     // Its whole code.
     ghost code: { Self → List Instruction };
 
@@ -32,7 +32,7 @@ pub(crate) trait Side {
         ensures the_whole_code { Appends (code self.now) records.old records.new };
 }
 
-fn count<S: Side>(side: &S) -> usize
+fn count<S: SideCode>(side: &S) -> usize
     requires allowed { S.fault side.now ≡ None }
     ensures its_length { result ≡ length (S.code side.now) }
 {
@@ -43,7 +43,7 @@ fn count<S: Side>(side: &S) -> usize
 }
 
 // The length of the code and its stack bytes; it is refused where there is room for fewer records.
-pub(crate) fn size<S: Side>(side: &S, room: usize) -> Result<(usize, u32), CodeFault>
+pub(crate) fn size<S: SideCode>(side: &S, room: usize) -> Result<(usize, u32), CodeFault>
     ensures lowest_number_first { fault_in result ≡ short_fault (S.fault side.now) (length (S.code side.now)) room }
     ensures length_and_stack_bytes { IfOk result (λ x. (x.0 ≡ length (S.code side.now)) × (x.1 ≡ S.bytes side.now)) }
     ensures within_the_room { IfOk result (λ x. x.0 ≤ room) }
@@ -58,7 +58,10 @@ pub(crate) fn size<S: Side>(side: &S, room: usize) -> Result<(usize, u32), CodeF
 }
 
 // Writes the code to the front of the list; answers its length and its stack bytes.
-pub(crate) fn write<S: Side>(side: &S, list: &mut [Instruction]) -> Result<(usize, u32), CodeFault>
+pub(crate) fn write<S: SideCode>(
+    side: &S,
+    list: &mut [Instruction],
+) -> Result<(usize, u32), CodeFault>
     ensures lowest_number_first { fault_in result ≡ short_fault (S.fault side.now) (length (S.code side.now)) (length list.old) }
     ensures code_at_the_front_and_the_rest_untouched { Coded (S.code side.now) (S.bytes side.now) list.old list.new result }
 {

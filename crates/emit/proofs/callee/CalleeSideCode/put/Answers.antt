@@ -6,7 +6,7 @@ use Rattle.delivery.specs.Code.{saved, callee_code, save_all, restore_all, copy_
 use Rattle.emit.proofs.Emits.{appends_then, appends_same, appends_put}
 use Rattle.emit.proofs.Same.{framed_code, same_callee}
 use Rattle.emit.proofs.Tested.{allowed_short}
-use Rattle.emit.proofs.callee.CalleeSide.put.Goals as goal
+use Rattle.emit.proofs.callee.CalleeSideCode.put.Goals as goal
 
 pub put_all-requires-clause-short : goal.put_all-requires-clause-short
 put_all-requires-clause-short g c = allowed_short _ _ c.args.self.now.body.now c.requires.allowed

@@ -6,7 +6,7 @@ use Rattle.delivery.specs.Code.{caller_code, fill_all, store_all, down, up, home
 use Rattle.emit.specs.Coding.{block_bytes}
 use Rattle.emit.proofs.Emits.{appends_then, appends_same, appends_put}
 use Rattle.emit.proofs.Same.{same_caller}
-use Rattle.emit.proofs.caller.CallerSide.put.Goals as goal
+use Rattle.emit.proofs.caller.CallerSideCode.put.Goals as goal
 
 pub returns : goal.returns
 returns g c =
