@@ -1,5 +1,5 @@
 mod Emits
-mod Saves
+mod Same
+mod Saved
+mod Searches
 pub mod Tested
-mod Blocked
-mod Lengths

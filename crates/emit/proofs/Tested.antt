@@ -1,36 +1,18 @@
--- The steps of the loops over a body.
-use Rattle.std.proofs.Common.{◌≡◌, ℕ, ◌+◌, ◌<◌, ◌≤◌, Bool, true, false, cond, ◌&&◌, ltb, List, [], ◌∷◌, length, get_or, drop, Some, None, Option, sym, ◌∙◌, inl, inr, arith}
-use Rattle.std.proofs.lemmas.List.{at_drop_more}
-use Rattle.std.proofs.lemmas.Bool.{cases_Bool, cond-true, cond-false, lt-ltb, le-ltb, ltb-true, and_right, and_parts}
+-- A body with no fault is short.
+use Rattle.std.proofs.Common.{◌≡◌, ℕ, ◌+◌, ◌<◌, ◌≤◌, Bool, true, cond, ◌&&◌, ltb, List, [], ◌∷◌, length, Some, None, Option, Ok, Err, Result, OnOk, refl, sym, ◌∙◌, inl, inr, arith}
+use Rattle.std.proofs.lemmas.Bool.{cases_Bool, cond-true, cond-false, ltb-true, and_parts}
 use Rattle.machine.specs.declared.Instruction.{Instruction}
-use Rattle.machine.specs.declared.Instruction.TheVariants.{Set}
+use Rattle.stage.specs.Faults.{Fault}
 use Rattle.delivery.specs.Bodies.{accepts, body_fault}
-
-module _ (homes : ℕ) (body : List Instruction) (i : ℕ) (h : i < length body) where
-  abbrev x : Instruction
-  x = get_or body i (Set 0 0)
-
-  step : body_fault homes (drop i body) i ≡ cond (ltb i 256 && accepts homes x) (body_fault homes (drop (i + 1) body) (i + 1)) (Some i)
-  step = at_drop_more (λ l. body_fault homes l i) body i (Set 0 0) h
-
-  pub one_too_many : 256 ≤ i → Some i ≡ body_fault homes (drop i body) i
-  one_too_many l = sym (step ∙ rw (le-ltb i 256 l))
-
-  pub not_accepted : false ≡ accepts homes x → Some i ≡ body_fault homes (drop i body) i
-  not_accepted e = sym (step ∙ rw (and_right (ltb i 256) (accepts homes x) (sym e)))
-
-  pub accepted : i < 256 → true ≡ accepts homes x → body_fault homes (drop (i + 1) body) (i + 1) ≡ body_fault homes (drop i body) i
-  accepted l e = sym (step ∙ rw (lt-ltb i 256 l, sym e))
+use Rattle.emit.specs.Coding.{fault_in, or_body, short_fault}
+use Rattle.emit.specs.declared.faults.CodeFault.{CodeFault}
 
 -- a search that finds no fault goes on behind an instruction without one
 goes_on : (t : Bool) (o : Option ℕ) (i : ℕ) → cond t o (Some i) ≡ None → (t ≡ true) × (o ≡ None)
 goes_on t o i e =
     elim (cases_Bool t) [
       | inl h ↦ (h, sym (cond-true t o (Some i) h) ∙ e)
-      | inr h ↦
-          let some : Some i ≡ None = sym (cond-false t o (Some i) h) ∙ e in
-          let never : ◌≡◌ {A = ℕ} 0 1 = cc in
-          absurd (omega arith)
+      | inr h ↦ let some : Some i ≡ None = sym (cond-false t o (Some i) h) ∙ e in absurd (cc)
     ]
 
 -- a body with no fault from an index on ends by 256
@@ -40,3 +22,20 @@ short_body (x ∷ xs) homes i l e =
     let found = goes_on (ltb i 256 && accepts homes x) (body_fault homes xs (i + 1)) i e in
     let below : i < 256 = ltb-true i 256 (and_parts (ltb i 256) (accepts homes x) found.0).0 in
     omega (arith, short_body xs homes (i + 1) (omega arith) found.1)
+
+no_body_fault : (o : Option ℕ) → or_body None o ≡ None → o ≡ None
+no_body_fault None e = refl
+no_body_fault (Some i) e = cc
+
+no_fault : (o : Option Fault) (made room : ℕ) → short_fault o made room ≡ None → o ≡ None
+no_fault None made room e = refl
+no_fault (Some f) made room e = cc
+
+-- where neither places nor body have a fault
+pub allowed_short : (f : Option Fault) (homes : ℕ) (body : List Instruction) → or_body f (body_fault homes body 0) ≡ None → length body ≤ 256
+allowed_short (Some f) homes body e = cc
+allowed_short None homes body e = omega (arith, short_body body homes 0 (omega arith) (no_body_fault (body_fault homes body 0) e))
+
+pub sized_short : {X : Type 0} (r : Result X CodeFault) (f : Option Fault) (homes : ℕ) (body : List Instruction) (made room : ℕ) → fault_in r ≡ short_fault (or_body f (body_fault homes body 0)) made room → OnOk r (length body ≤ 256)
+sized_short (Ok x) f homes body made room e = allowed_short f homes body (no_fault (or_body f (body_fault homes body 0)) made room (sym e))
+sized_short (Err x) f homes body made room e = tt

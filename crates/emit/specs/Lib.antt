@@ -1,2 +1,3 @@
 pub mod Emitting
 pub mod Coding
+pub mod Registers

@@ -1,20 +1,13 @@
-// Bodies: what a callee's body may have, and its records.
-ghost use Rattle.std.specs.Prelude.{◌≡◌, ◌+◌, ◌^◌, ◌<◌, ◌≤◌, length};
+// What a callee's body may have.
+ghost use Rattle.std.specs.Prelude.{◌≡◌};
 ghost use Rattle.delivery.specs.Bodies.{within_homes, accepts, body_fault};
-ghost use Rattle.emit.specs.Emitting.{code_of, emit};
 
-use crate::records::put;
 use machine::{Instruction, Width};
 
 fn within_homes(i: i16, width: Width, homes: u16) -> bool
     ensures whether_all_its_bytes_are_homes { result ≡ within_homes homes i width }
 {
-    let bytes = match width {
-        Width::One => 1,
-        Width::Two => 2,
-        Width::Four => 4,
-    };
-    i >= 0 && i32::from(i) + bytes <= i32::from(homes)
+    i >= 0 && i as usize + width.bytes() <= usize::from(homes)
 }
 
 // Whether a body may have this instruction.
@@ -39,23 +32,7 @@ fn accepts(x: Instruction, homes: u16) -> bool
 pub(crate) fn body_fault(body: &[Instruction], homes: u16) -> Option<usize>
     ensures first_that_is_bad_or_one_too_many { result ≡ body_fault homes body.now 0 }
 {
-    for (i, x) in body.iter().enumerate() {
-        if i >= 256 || !accepts(*x, homes) {
-            return Some(i);
-        }
-    }
-    None
-}
-
-pub(crate) fn put_body(code: &mut [Instruction], at: usize, body: &[Instruction]) -> usize
-    requires room { at < 2 ^ 29 }
-    requires short { length body.now ≤ 256 }
-    ensures copies_the_body { code_of code.new result ≡ emit (code_of code.old at) body.now }
-    ensures few { result ≤ at + 256 }
-{
-    let mut at = at;
-    for x in body {
-        at = put(code, at, *x);
-    }
-    at
+    body.iter()
+        .enumerate()
+        .position(|(i, x)| i >= 256 || !accepts(*x, homes))
 }

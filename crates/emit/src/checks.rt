@@ -1,9 +1,9 @@
 // What forbids the code of a call.
-ghost use Rattle.std.specs.Prelude.{◌≡◌, ◌≤◌, map, length, None, OnOk, nat_lt};
+ghost use Rattle.std.specs.Prelude.{◌≡◌, map, length, None};
 ghost use Rattle.allocation.specs.States.{state, holding};
 ghost use Rattle.delivery.specs.Bodies.{body_fault};
 ghost use Rattle.place.specs.Pieces.{in_block, low_piece};
-ghost use Rattle.emit.specs.Coding.{in_block_any, results_forbidden, kept_clashes, places_fault, or_body, short_fault, fault_in};
+ghost use Rattle.emit.specs.Coding.{in_block_any, results_forbidden, kept_clashes, places_fault, or_body, fault_in};
 
 use crate::body::body_fault;
 use crate::faults::CodeFault;
@@ -17,35 +17,24 @@ use stage::Stage;
 fn lies_in_block(place: Place) -> bool
     ensures whether_its_low_piece_does { result ≡ in_block (low_piece place) }
 {
-    match place {
-        Place::Single(Piece::Register(_)) | Place::Double(Piece::Register(_), _) => false,
-        Place::Single(Piece::Block { .. }) | Place::Double(Piece::Block { .. }, _) => true,
-    }
+    matches!(
+        place,
+        Place::Single(Piece::Block { .. }) | Place::Double(Piece::Block { .. }, _)
+    )
 }
 
 // Whether a place of the list lies in the block.
 fn any_in_block(held: &[Held]) -> bool
     ensures whether_one_lies_in_the_block { result ≡ in_block_any (map holding held.now) }
 {
-    for h in held {
-        if lies_in_block(h.place) {
-            return true;
-        }
-    }
-    false
-}
-
-fn too_many(results: usize) -> bool
-    ensures more_than_four { result ≡ nat_lt 4 results }
-{
-    results > 4
+    held.iter().any(|h| lies_in_block(h.place))
 }
 
 // Whether results cannot travel so: more than four, or one in the block.
 fn results_forbidden(held: &[Held]) -> bool
     ensures more_than_four_or_one_in_the_block { result ≡ results_forbidden (map holding held.now) }
 {
-    too_many(held.len()) || any_in_block(held)
+    held.len() > 4 || any_in_block(held)
 }
 
 // Whether a kept register is above r27, or in one of the sets.
@@ -75,21 +64,6 @@ pub(crate) fn check_places<P: Stage, Q: Stage>(
 // A body that has an instruction that it may not have, or one too many, is refused at that one.
 pub(crate) fn check_body(body: &[Instruction], homes: u16) -> Result<(), CodeFault>
     ensures at_the_first_bad_instruction { fault_in result ≡ or_body None (body_fault homes body.now 0) }
-    ensures at_most_256_instructions { OnOk result (length body.now ≤ 256) }
 {
-    match body_fault(body, homes) {
-        Some(i) => Err(CodeFault::Body(i)),
-        None => Ok(()),
-    }
-}
-
-// Code of so many records is refused where there is room for fewer.
-pub(crate) fn check_room(length: usize, room: usize) -> Result<(), CodeFault>
-    ensures where_there_is_room_for_fewer { fault_in result ≡ short_fault None length room }
-    ensures within_the_room { OnOk result (length ≤ room) }
-{
-    if room < length {
-        return Err(CodeFault::TooShort);
-    }
-    Ok(())
+    body_fault(body, homes).map_or(Ok(()), |i| Err(CodeFault::Body(i)))
 }

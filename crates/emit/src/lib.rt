@@ -10,3 +10,4 @@ mod instructions;
 mod places;
 mod records;
 mod saving;
+mod side;

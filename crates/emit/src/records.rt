@@ -1,16 +1,48 @@
 // Writing records into a list.
-ghost use Rattle.std.specs.Prelude.{◌≡◌, ◌^◌, ◌<◌, [], ◌∷◌};
-ghost use Rattle.emit.specs.Emitting.{code_of, emit};
+ghost use Rattle.std.specs.Prelude.{◌≡◌, ◌+◌, ◌^◌, ◌<◌, ◌≤◌, [], ◌∷◌, length};
+ghost use Rattle.emit.specs.Emitting.{code_of, Appends};
 
 use machine::Instruction;
 
-// Writes one record at an index, where the list reaches so far, and answers the next index.
-pub(crate) fn put(code: &mut [Instruction], at: usize, x: Instruction) -> usize
-    requires room { at < 2 ^ 32 }
-    ensures one_record_more { code_of code.new result ≡ emit (code_of code.old at) (x ∷ []) }
-{
-    if at < code.len() {
-        code[at] = x;
+// A list that is lent, and how many records were written from its front on; past its end they are only counted.
+#[derive(Drop)]
+pub(crate) struct Records<'a> {
+    list: &'a mut [Instruction],
+    len: usize,
+}
+
+impl<'a> Records<'a> {
+    pub(crate) fn new(list: &'a mut [Instruction]) -> Records<'a>
+        ensures into_the_list { result.list.ghost_name ≡ list.entry.ghost_name }
+        ensures nothing_written { code_of result.list.now result.len ≡ code_of list.old 0 }
+    {
+        Records { list, len: 0 }
     }
-    at + 1
+
+    pub(crate) fn put(&mut self, x: Instruction)
+        requires room { self.old.len < 2 ^ 32 }
+        ensures one_record_more { Appends (x ∷ []) self.old self.new }
+    {
+        if self.len < self.list.len() {
+            self.list[self.len] = x;
+        }
+        self.len += 1;
+    }
+
+    pub(crate) fn len(&self) -> usize
+        ensures records_written { result ≡ self.now.len }
+    {
+        self.len
+    }
+
+    pub(crate) fn put_all(&mut self, xs: &[Instruction])
+        requires room { self.old.len < 2 ^ 29 }
+        requires short { length xs.now ≤ 256 }
+        ensures each_record { Appends xs.now self.old self.new }
+        ensures few { self.new.len ≤ self.old.len + 256 }
+    {
+        for x in xs {
+            self.put(*x);
+        }
+    }
 }

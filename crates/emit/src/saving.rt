@@ -1,113 +1,72 @@
 // The registers that a callee saves: those that are kept and that its body writes.
-ghost use Rattle.std.specs.Prelude.{◌≡◌, ◌+◌, ◌^◌, ◌<◌, ◌≤◌, ◌&&◌, length};
-ghost use Rattle.place.specs.Registers.{has};
-ghost use Rattle.delivery.specs.Code.{writes, written, saved, save_word, save_all, restore_word, restore_all};
-ghost use Rattle.emit.specs.Emitting.{code_of, emit};
+ghost use Rattle.std.specs.Prelude.{◌≡◌, ◌+◌, ◌^◌, ◌<◌, ◌≤◌, length};
+ghost use Rattle.delivery.specs.Code.{saved, each_word};
+ghost use Rattle.emit.specs.Emitting.{Appends};
+ghost use Rattle.emit.specs.Registers.{destination, members, word_code};
 
 use crate::instructions::{load, store};
-use crate::records::put;
+use crate::records::Records;
 use machine::{Instruction, Width};
 use place::registers::RegisterSet;
 
-fn writes(x: Instruction, r: u8) -> bool
-    ensures whether_it_is_the_destination { result ≡ writes r x }
+// The register that an instruction writes.
+fn destination(x: Instruction) -> Option<u8>
+    ensures the_register_that_it_writes { result ≡ destination x }
 {
     match x {
-        Instruction::Set { d, .. } => d == r,
-        Instruction::Mov { d, .. } => d == r,
-        Instruction::Add { d, .. } => d == r,
-        Instruction::Addi { d, .. } => d == r,
-        Instruction::Sign { d, .. } => d == r,
-        Instruction::Load { d, .. } => d == r,
+        Instruction::Set { d, .. }
+        | Instruction::Mov { d, .. }
+        | Instruction::Add { d, .. }
+        | Instruction::Addi { d, .. }
+        | Instruction::Sign { d, .. }
+        | Instruction::Load { d, .. } => Some(d),
         Instruction::Store { .. } | Instruction::Call | Instruction::Ret | Instruction::Halt =>
-            false,
+            None,
     }
 }
 
-fn is_written(body: &[Instruction], r: u8) -> bool
-    ensures whether_an_instruction_writes_it { result ≡ written r body.now }
+pub(crate) fn saved_registers(kept: RegisterSet, body: &[Instruction]) -> RegisterSet
+    ensures kept_ones_that_the_body_writes { members result.bits ≡ saved kept.bits body.now }
 {
-    for x in body {
-        if writes(*x, r) {
-            return true;
-        }
-    }
-    false
+    body.iter()
+        .filter_map(|x| destination(*x))
+        .filter(|d| kept.contains(*d))
+        .fold(RegisterSet::EMPTY, |set, d| set.with(d))
 }
 
-fn is_saved(kept: RegisterSet, body: &[Instruction], r: u8) -> bool
-    ensures whether_kept_and_written { result ≡ (has kept.bits r && written r body.now) }
-{
-    kept.contains(r) && is_written(body, r)
-}
-
-pub(crate) fn count_saved(kept: RegisterSet, body: &[Instruction]) -> u32
-    ensures their_number { result ≡ length (saved kept.bits body.now) }
+pub(crate) fn count_saved(saved: RegisterSet) -> u32
+    ensures their_number { result ≡ length (members saved.bits) }
     ensures at_most_28 { result ≤ 28 }
 {
-    let mut count = 0;
-    for r in 0..28 {
-        if is_saved(kept, body, r) {
-            count += 1;
+    (0..28).filter(|r| saved.contains(*r)).count() as u32
+}
+
+// What is done with saved registers and their words. An enum, since a chain with a closure gets no proof in a generic function.
+#[derive(Clone, Copy)]
+pub(crate) enum WordMove {
+    Save,
+    Restore,
+}
+
+impl WordMove {
+    fn instruction(self, r: u8, word: u32) -> Instruction
+        ensures whole_register_to_or_from_its_word { result ≡ word_code self r word }
+    {
+        match self {
+            WordMove::Save => store(r, word, Width::Four),
+            WordMove::Restore => load(r, word, Width::Four),
         }
     }
-    count
 }
 
-fn save_word(r: u8, word: u32) -> Instruction
-    ensures whole_register_to_its_word { result ≡ save_word r word }
-{
-    store(r, word, Width::Four)
-}
-
-fn restore_word(r: u8, word: u32) -> Instruction
-    ensures whole_register_from_its_word { result ≡ restore_word r word }
-{
-    load(r, word, Width::Four)
-}
-
-pub(crate) fn save_all(
-    code: &mut [Instruction],
-    at: usize,
-    kept: RegisterSet,
-    body: &[Instruction],
-    home: u32,
-) -> usize
-    requires room { at < 2 ^ 29 }
+// Saved registers whose words lie one after the other, the first at `home`.
+pub(crate) fn put_saved(way: WordMove, records: &mut Records, saved: RegisterSet, home: u32)
+    requires room { records.old.len < 2 ^ 29 }
     requires near { home ≤ 90000 }
-    ensures stores_each_saved_register { code_of code.new result ≡ emit (code_of code.old at) (save_all (saved kept.bits body.now) home) }
-    ensures few { result ≤ at + 28 }
+    ensures code_for_each_register { Appends (each_word (word_code way) (members saved.bits) home) records.old records.new }
+    ensures few { records.new.len ≤ records.old.len + 28 }
 {
-    let mut at = at;
-    let mut home = home;
-    for r in 0..28 {
-        if is_saved(kept, body, r) {
-            at = put(code, at, save_word(r, home));
-            home += 4;
-        }
+    for (i, r) in (0..28).filter(|r| saved.contains(*r)).enumerate() {
+        records.put(way.instruction(r, home + 4 * i as u32));
     }
-    at
-}
-
-pub(crate) fn restore_all(
-    code: &mut [Instruction],
-    at: usize,
-    kept: RegisterSet,
-    body: &[Instruction],
-    home: u32,
-) -> usize
-    requires room { at < 2 ^ 29 }
-    requires near { home ≤ 90000 }
-    ensures loads_each_saved_register { code_of code.new result ≡ emit (code_of code.old at) (restore_all (saved kept.bits body.now) home) }
-    ensures few { result ≤ at + 28 }
-{
-    let mut at = at;
-    let mut home = home;
-    for r in 0..28 {
-        if is_saved(kept, body, r) {
-            at = put(code, at, restore_word(r, home));
-            home += 4;
-        }
-    }
-    at
 }

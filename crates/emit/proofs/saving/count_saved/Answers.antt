@@ -1,19 +1,10 @@
-use Rattle.std.proofs.Common.{◌≡◌, ℕ, List, length, sym, ap, ◌∙◌, arith}
-use Rattle.emit.proofs.Saves.{saved_same, length_saved_more, saved_all}
+use Rattle.std.proofs.Common.{refl, rules, tests}
+use Rattle.std.proofs.lemmas.Iterator.{YieldsList-from_range}
+use Rattle.std.proofs.lemmas.Iterator.Consumers.{YieldsList-at, YieldsList-from_filter, count_from_yields_List}
+use Rattle.place.specs.Registers.{has}
+use Rattle.emit.specs.Registers.{members}
 use Rattle.emit.proofs.saving.count_saved.Goals as goal
-use Rattle.emit.proofs.saving.count_saved.Goals.{then-is_saved, else-is_saved}
 
-pub loop-r-preserved : goal.loop-r-preserved
-loop-r-preserved c =
-    let kept = c.args.kept.bits in
-    let body = c.args.body.now in
-    let r = c.loop-r.r in
-    elim c.if-is_saved.branch [
-      | then-is_saved w ↦ (omega (arith, w.count-is, length_saved_more kept body r (sym w.if-is_saved.ensures.whether_kept_and_written)), omega (arith, w.count-is))
-      | else-is_saved w ↦ (omega (arith, w.count-is, ap (λ (l : List ℕ). length l) (saved_same kept body r (sym w.if-is_saved.ensures.whether_kept_and_written))), omega (arith, w.count-is))
-    ]
-
-pub returns : goal.returns
-returns c =
-    let end : c.loop-r.r ≡ 28 = omega arith in
-    record { their_number = c.loop-r.invariant.0 ∙ ap (λ (l : List ℕ). length l) (saved_all c.args.kept.bits c.args.body.now c.loop-r.r end); at_most_28 = omega arith }
+pub returns-clause-their_number : goal.returns-clause-their_number
+unfolding members
+returns-clause-their_number c = count_from_yields_List c.filter.result _ c.count.ensures.ran (YieldsList-from_filter _ (has c.args.saved.bits) (YieldsList-at c.filter.ensures.source (YieldsList-from_range 0 28 28 refl refl)) c.filter.ensures.closure (λ x r q k. search (rules, tests)))

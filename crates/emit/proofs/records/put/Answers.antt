@@ -1,6 +1,0 @@
-use Rattle.std.proofs.Common.{rules}
-use Rattle.std.proofs.lemmas.List.{set_past}
-use Rattle.emit.proofs.records.put.Goals as goal
-
-pub returns : goal.returns
-returns c = search (rules, set_past)

@@ -1,0 +1,71 @@
+// The code of one side of a call, whichever it is.
+ghost use Rattle.std.specs.Prelude.{◌≡◌, ◌≤◌, ℕ, List, length, IfOk, None, Option};
+ghost use Rattle.machine.specs.declared.Instruction.{Instruction};
+ghost use Rattle.stage.specs.Faults.{Fault};
+ghost use Rattle.emit.specs.Emitting.{Appends};
+ghost use Rattle.emit.specs.Coding.{Coded, fault_in, short_fault};
+
+use crate::faults::CodeFault;
+use crate::records::Records;
+use machine::Instruction;
+
+pub(crate) trait SideCode {
+    // Its whole code.
+    ghost code: { Self → List Instruction };
+
+    // The stack bytes that the code takes.
+    ghost bytes: { Self → ℕ };
+
+    // What forbids the code, however much room there is.
+    ghost fault: { Self → Option Fault };
+
+    fn check(&self) -> Result<(), CodeFault>
+        ensures lowest_number_first { fault_in result ≡ fault self.now };
+
+    fn stack_bytes(&self) -> u32
+        ensures its_stack_bytes { result ≡ bytes self.now }
+        ensures at_most_65536 { result ≤ 65536 };
+
+    fn put(&self, records: &mut Records)
+        requires allowed { fault self.now ≡ None }
+        requires from_the_front { records.old.len ≡ 0 }
+        ensures the_whole_code { Appends (code self.now) records.old records.new };
+}
+
+fn count<S: SideCode>(side: &S) -> usize
+    requires allowed { S.fault side.now ≡ None }
+    ensures its_length { result ≡ length (S.code side.now) }
+{
+    // A pass over no list only counts the records.
+    let mut records = Records::new(&mut []);
+    side.put(&mut records);
+    records.len()
+}
+
+// The length of the code and its stack bytes; it is refused where there is room for fewer records.
+pub(crate) fn size<S: SideCode>(side: &S, room: usize) -> Result<(usize, u32), CodeFault>
+    ensures lowest_number_first { fault_in result ≡ short_fault (S.fault side.now) (length (S.code side.now)) room }
+    ensures length_and_stack_bytes { IfOk result (λ x. (x.0 ≡ length (S.code side.now)) × (x.1 ≡ S.bytes side.now)) }
+    ensures within_the_room { IfOk result (λ x. x.0 ≤ room) }
+    ensures at_most_65536_stack_bytes { IfOk result (λ x. x.1 ≤ 65536) }
+{
+    side.check()?;
+    let length = count(side);
+    if room < length {
+        return Err(CodeFault::TooShort);
+    }
+    Ok((length, side.stack_bytes()))
+}
+
+// Writes the code to the front of the list; answers its length and its stack bytes.
+pub(crate) fn write<S: SideCode>(
+    side: &S,
+    list: &mut [Instruction],
+) -> Result<(usize, u32), CodeFault>
+    ensures lowest_number_first { fault_in result ≡ short_fault (S.fault side.now) (length (S.code side.now)) (length list.old) }
+    ensures code_at_the_front_and_the_rest_untouched { Coded (S.code side.now) (S.bytes side.now) list.old list.new result }
+{
+    let (length, bytes) = size(side, list.len())?;
+    side.put(&mut Records::new(list));
+    Ok((length, bytes))
+}
