@@ -78,18 +78,9 @@ sides_of p = record {
   core_results = p.core_results.state;
 }
 
--- those of bench and core while they are open, by the ghost members of their piles
-abbrev pub open_sides : {A B C D S : Type 0} → Ghosts A → Ghosts B → Ghosts C → Ghosts D → Side (Allocation A S) (Allocation B S) → Side (Allocation C S) (Allocation D S) → Sides
-open_sides a b c d bench core = record {
-  bench_arguments = state a bench.arguments;
-  bench_results = state b bench.results;
-  core_arguments = state c core.arguments;
-  core_results = state d core.results;
-}
-
--- and once they are frozen
-abbrev pub frozen_sides : {A B C D S : Type 0} → Ghosts A → Ghosts B → Ghosts C → Ghosts D → Side (Allocation A S) (Allocation B S) → Side (Allocation C S) (Allocation D S) → Sides
-frozen_sides a b c d bench core = record {
+-- those of bench and core, open or frozen, by the ghost members of their piles
+abbrev pub both_sides : {A B C D S : Type 0} → Ghosts A → Ghosts B → Ghosts C → Ghosts D → Side (Allocation A S) (Allocation B S) → Side (Allocation C S) (Allocation D S) → Sides
+both_sides a b c d bench core = record {
   bench_arguments = state a bench.arguments;
   bench_results = state b bench.results;
   core_arguments = state c core.arguments;

@@ -1,7 +1,7 @@
 // The call.
 ghost use Rattle.std.specs.Prelude.{◌≡◌, length};
 ghost use Rattle.allocation.specs.States.{state};
-ghost use Rattle.call.specs.Placing.{placement, placing_fault, sides_of, open_sides, frozen_sides};
+ghost use Rattle.call.specs.Placing.{placement, placing_fault, sides_of, both_sides};
 ghost use Rattle.call.specs.Astray.{used_of, NothingGoesAstray};
 ghost use Rattle.call.specs.Calls.{fault_in, first_of, coding_fault, world_of, CameOut};
 
@@ -47,8 +47,8 @@ fn run_placed<A: Stage, B: Stage, C: Stage, D: Stage>(
     memory: &mut [u8],
     limit: usize,
 ) -> Result<Ran, CallFault>
-    ensures refused_with_the_first_fault { fault_in result ≡ first_of (placing_fault placed) (coding_fault (frozen_sides A.Stage B.Stage C.Stage D.Stage bench.now core.now) routine.entry.kept.bits routine.entry.body.now (length caller.old) (length callee.old) (length memory.old)) }
-    ensures comes_out_by_the_rules { CameOut (frozen_sides A.Stage B.Stage C.Stage D.Stage bench.now core.now) routine.entry.kept.bits routine.entry.body.now limit (world_of caller.old callee.old registers.old memory.old) (world_of caller.new callee.new registers.new memory.new) result }
+    ensures refused_with_the_first_fault { fault_in result ≡ first_of (placing_fault placed) (coding_fault (both_sides A.Stage B.Stage C.Stage D.Stage bench.now core.now) routine.entry.kept.bits routine.entry.body.now (length caller.old) (length callee.old) (length memory.old)) }
+    ensures comes_out_by_the_rules { CameOut (both_sides A.Stage B.Stage C.Stage D.Stage bench.now core.now) routine.entry.kept.bits routine.entry.body.now limit (world_of caller.old callee.old registers.old memory.old) (world_of caller.new callee.new registers.new memory.new) result }
 {
     placed?;
     code_and_run(
@@ -67,9 +67,9 @@ fn place_and_run<A: Stage, B: Stage, C: Stage, D: Stage>(
     memory: &mut [u8],
     limit: usize,
 ) -> Called<A, B, C, D>
-    ensures sides_are_placed_by_the_rules { frozen_sides A.Stage B.Stage C.Stage D.Stage result.bench result.core ≡ sides_of (placement (open_sides A.Stage B.Stage C.Stage D.Stage bench core) routine.entry.arguments.now routine.entry.results.now) }
-    ensures refused_with_the_first_fault { fault_in result.answer ≡ first_of (placement (open_sides A.Stage B.Stage C.Stage D.Stage bench core) routine.entry.arguments.now routine.entry.results.now).core_results.fault (coding_fault (frozen_sides A.Stage B.Stage C.Stage D.Stage result.bench result.core) routine.entry.kept.bits routine.entry.body.now (length caller.old) (length callee.old) (length memory.old)) }
-    ensures comes_out_by_the_rules { CameOut (frozen_sides A.Stage B.Stage C.Stage D.Stage result.bench result.core) routine.entry.kept.bits routine.entry.body.now limit (world_of caller.old callee.old registers.old memory.old) (world_of caller.new callee.new registers.new memory.new) result.answer }
+    ensures sides_are_placed_by_the_rules { both_sides A.Stage B.Stage C.Stage D.Stage result.bench result.core ≡ sides_of (placement (both_sides A.Stage B.Stage C.Stage D.Stage bench core) routine.entry.arguments.now routine.entry.results.now) }
+    ensures refused_with_the_first_fault { fault_in result.answer ≡ first_of (placement (both_sides A.Stage B.Stage C.Stage D.Stage bench core) routine.entry.arguments.now routine.entry.results.now).core_results.fault (coding_fault (both_sides A.Stage B.Stage C.Stage D.Stage result.bench result.core) routine.entry.kept.bits routine.entry.body.now (length caller.old) (length callee.old) (length memory.old)) }
+    ensures comes_out_by_the_rules { CameOut (both_sides A.Stage B.Stage C.Stage D.Stage result.bench result.core) routine.entry.kept.bits routine.entry.body.now limit (world_of caller.old callee.old registers.old memory.old) (world_of caller.new callee.new registers.new memory.new) result.answer }
 {
     let placed = place_all(&mut bench, &mut core, routine);
     let bench = freeze(bench);
@@ -96,7 +96,7 @@ pub fn call<A: Stage, B: Stage, C: Stage, D: Stage>(
     memory: &mut [u8],
     budget: usize,
 ) -> Called<A, B, C, D>
-    ensures nothing_goes_astray { NothingGoesAstray (record { bench_arguments = used_of A.Stage bench.entry.arguments; bench_results = used_of B.Stage bench.entry.results; core_arguments = used_of C.Stage core.entry.arguments; core_results = used_of D.Stage core.entry.results; arguments = routine.entry.arguments.now; results = routine.entry.results.now; kept = routine.entry.kept.bits; body = routine.entry.body.now; world = world_of caller.old callee.old registers.old memory.old; budget = budget }) (record { sides = frozen_sides A.Stage B.Stage C.Stage D.Stage result.bench result.core; world = world_of caller.new callee.new registers.new memory.new; answer = result.answer }) }
+    ensures nothing_goes_astray { NothingGoesAstray (record { bench_arguments = used_of A.Stage bench.entry.arguments; bench_results = used_of B.Stage bench.entry.results; core_arguments = used_of C.Stage core.entry.arguments; core_results = used_of D.Stage core.entry.results; arguments = routine.entry.arguments.now; results = routine.entry.results.now; kept = routine.entry.kept.bits; body = routine.entry.body.now; world = world_of caller.old callee.old registers.old memory.old; budget = budget }) (record { sides = both_sides A.Stage B.Stage C.Stage D.Stage result.bench result.core; world = world_of caller.new callee.new registers.new memory.new; answer = result.answer }) }
 {
     let _ = read_bytes(memory);
     read_numbers(routine.body);

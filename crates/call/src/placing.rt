@@ -1,7 +1,7 @@
 // Placing a signature on both sides.
 ghost use Rattle.std.specs.Prelude.{◌≡◌};
 ghost use Rattle.allocation.specs.States.{state, opened};
-ghost use Rattle.call.specs.Placing.{placed_until, first_refused, placing_fault, placement, open_sides, ComesOf};
+ghost use Rattle.call.specs.Placing.{placed_until, first_refused, placing_fault, placement, both_sides, ComesOf};
 
 use crate::sides::{Routine, Side, UsedPile};
 use allocation::asked::Asked;
@@ -34,7 +34,7 @@ pub(crate) fn place_all<A: Stage, B: Stage, C: Stage, D: Stage>(
     core: &mut Side<Open<C>, Open<D>>,
     routine: Routine,
 ) -> Result<(), PlacementFault>
-    ensures bench_then_core_up_to_the_first_refused { ComesOf (placement (open_sides A.Stage B.Stage C.Stage D.Stage bench.old core.old) routine.entry.arguments.now routine.entry.results.now) (open_sides A.Stage B.Stage C.Stage D.Stage bench.new core.new) (placing_fault result) }
+    ensures bench_then_core_up_to_the_first_refused { ComesOf (placement (both_sides A.Stage B.Stage C.Stage D.Stage bench.old core.old) routine.entry.arguments.now routine.entry.results.now) (both_sides A.Stage B.Stage C.Stage D.Stage bench.new core.new) (placing_fault result) }
 {
     place_list(&mut bench.arguments, routine.arguments)?;
     place_list(&mut bench.results, routine.results)?;

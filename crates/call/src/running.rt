@@ -1,7 +1,7 @@
 // Coding both sides of a call, and running it.
 ghost use Rattle.std.specs.Prelude.{◌≡◌, length};
 ghost use Rattle.call.specs.Calls.{fault_in, coding_fault, world_of, CameOut};
-ghost use Rattle.call.specs.Placing.{frozen_sides};
+ghost use Rattle.call.specs.Placing.{both_sides};
 
 use crate::ran::Ran;
 use crate::sides::{Routine, Side};
@@ -27,7 +27,7 @@ fn check_call<A: Stage, B: Stage, C: Stage, D: Stage>(
     routine: Routine,
     room: Room,
 ) -> Result<(), CallFault>
-    ensures first_fault_of_caller_callee_or_memory { fault_in result ≡ coding_fault (frozen_sides A.Stage B.Stage C.Stage D.Stage bench.now core.now) routine.entry.kept.bits routine.entry.body.now room.caller room.callee room.memory }
+    ensures first_fault_of_caller_callee_or_memory { fault_in result ≡ coding_fault (both_sides A.Stage B.Stage C.Stage D.Stage bench.now core.now) routine.entry.kept.bits routine.entry.body.now room.caller room.callee room.memory }
 {
     let kept = routine.kept;
     caller_size(&bench.arguments, &bench.results, kept, room.caller)?;
@@ -55,8 +55,8 @@ pub(crate) fn code_and_run<A: Stage, B: Stage, C: Stage, D: Stage>(
     memory: &mut [u8],
     budget: usize,
 ) -> Result<Ran, CallFault>
-    ensures first_fault_of_caller_callee_or_memory { fault_in result ≡ coding_fault (frozen_sides A.Stage B.Stage C.Stage D.Stage bench.now core.now) routine.entry.kept.bits routine.entry.body.now (length caller.old) (length callee.old) (length memory.old) }
-    ensures comes_out_by_the_rules { CameOut (frozen_sides A.Stage B.Stage C.Stage D.Stage bench.now core.now) routine.entry.kept.bits routine.entry.body.now budget (world_of caller.old callee.old registers.old memory.old) (world_of caller.new callee.new registers.new memory.new) result }
+    ensures first_fault_of_caller_callee_or_memory { fault_in result ≡ coding_fault (both_sides A.Stage B.Stage C.Stage D.Stage bench.now core.now) routine.entry.kept.bits routine.entry.body.now (length caller.old) (length callee.old) (length memory.old) }
+    ensures comes_out_by_the_rules { CameOut (both_sides A.Stage B.Stage C.Stage D.Stage bench.now core.now) routine.entry.kept.bits routine.entry.body.now budget (world_of caller.old callee.old registers.old memory.old) (world_of caller.new callee.new registers.new memory.new) result }
 {
     let room = Room {
         caller: caller.len(),

@@ -4,12 +4,12 @@ ghost use Rattle.worked.specs.Piles.{wide, shut_pair, open_pair, count_pair, sha
 ghost use Rattle.worked.specs.Trials.{Gives, Tells, asks, expects};
 
 use crate::trial::gives;
-use allocation::answers::Answer;
 use adjust::Adjust;
+use allocation::answers::Answer;
+use allocation::asked::Asked;
 use banks::bits::Bits;
 use banks::count::Count;
 use blocks::up::Up;
-use allocation::asked::Asked;
 use shut::Shut;
 use sides::over::Over;
 use stage::ParameterFault;

@@ -1,7 +1,7 @@
 // The types of the worked cases, at their own alignments, and the answers.
 use allocation::answers::Answer;
-use allocation::faults::{Cause, PlacementFault};
 use allocation::asked::Asked;
+use allocation::faults::{Cause, PlacementFault};
 use place::pieces::{Piece, Place};
 use stage::Refusal;
 use values::kinds::Kind;

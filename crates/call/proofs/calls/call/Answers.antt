@@ -1,5 +1,5 @@
 use Rattle.std.proofs.Common.{length, ap, ◌∙◌}
-use Rattle.call.specs.Placing.{Sides, placement, sides_of, frozen_sides}
+use Rattle.call.specs.Placing.{Sides, placement, sides_of, both_sides}
 use Rattle.call.specs.Calls.{first_of, coding_fault}
 use Rattle.call.proofs.Steps.{same_sides}
 use Rattle.call.proofs.Astrays.{nothing_goes_astray}
@@ -10,7 +10,7 @@ returns g c =
     let did = c.place_and_run.ensures in
     let arguments = c.args.routine.arguments.now in
     let results = c.args.routine.results.now in
-    let now : Sides = frozen_sides g.A.Stage g.B.Stage g.C.Stage g.D.Stage c.place_and_run.result.bench c.place_and_run.result.core in
+    let now : Sides = both_sides g.A.Stage g.B.Stage g.C.Stage g.D.Stage c.place_and_run.result.bench c.place_and_run.result.core in
     let fresh = same_sides _ _ _ _ _ _ _ _ c.reopened.ensures.newly_opened c.reopened-2.ensures.newly_opened c.reopened-3.ensures.newly_opened c.reopened-4.ensures.newly_opened in
     record {
       nothing_goes_astray = nothing_goes_astray _ _
