@@ -5,9 +5,9 @@ ghost use Rattle.call.specs.Placing.{placement, placing_fault, sides_of, both_si
 ghost use Rattle.call.specs.Astray.{used_of, NothingGoesAstray};
 ghost use Rattle.call.specs.Calls.{fault_in, first_of, coding_fault, world_of, CameOut};
 
-use crate::placing::{place_all, reopened};
+use crate::placing::{open_side, place_all};
 use crate::ran::Ran;
-use crate::ranges::{read_bytes, read_numbers};
+use crate::ranges::{know_bytes, read_numbers};
 use crate::running::code_and_run;
 use crate::sides::{Routine, Side, UsedPile};
 use allocation::faults::PlacementFault;
@@ -98,16 +98,10 @@ pub fn call<A: Stage, B: Stage, C: Stage, D: Stage>(
 ) -> Called<A, B, C, D>
     ensures nothing_goes_astray { NothingGoesAstray (record { bench_arguments = used_of A.Stage bench.entry.arguments; bench_results = used_of B.Stage bench.entry.results; core_arguments = used_of C.Stage core.entry.arguments; core_results = used_of D.Stage core.entry.results; arguments = routine.entry.arguments.now; results = routine.entry.results.now; kept = routine.entry.kept.bits; body = routine.entry.body.now; world = world_of caller.old callee.old registers.old memory.old; budget = budget }) (record { sides = both_sides A.Stage B.Stage C.Stage D.Stage result.bench result.core; world = world_of caller.new callee.new registers.new memory.new; answer = result.answer }) }
 {
-    let _ = read_bytes(memory);
+    know_bytes(memory);
     read_numbers(routine.body);
-    let bench = Side {
-        arguments: reopened(bench.arguments),
-        results: reopened(bench.results),
-    };
-    let core = Side {
-        arguments: reopened(core.arguments),
-        results: reopened(core.results),
-    };
+    let bench = open_side(bench);
+    let core = open_side(core);
     place_and_run(
         bench, core, routine, caller, callee, registers, memory, budget,
     )

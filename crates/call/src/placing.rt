@@ -11,10 +11,23 @@ use histories::plays::play;
 use stage::Stage;
 
 // Opens the pile, plays what came before, and reopens.
-pub(crate) fn reopened<P: Stage>(used: UsedPile<P>) -> Open<P>
+fn reopened<P: Stage>(used: UsedPile<P>) -> Open<P>
     ensures newly_opened { state P.Stage result ≡ opened (P.Stage.profile used.entry.pile) }
 {
     play(used.pile, used.rounds, used.since).freeze().reopen()
+}
+
+// A side's piles, each opened, used as it was before, and reopened.
+pub(crate) fn open_side<P: Stage, Q: Stage>(
+    side: Side<UsedPile<P>, UsedPile<Q>>,
+) -> Side<Open<P>, Open<Q>>
+    ensures arguments_newly_opened { state P.Stage result.arguments ≡ opened (P.Stage.profile side.entry.arguments.pile) }
+    ensures results_newly_opened { state Q.Stage result.results ≡ opened (Q.Stage.profile side.entry.results.pile) }
+{
+    Side {
+        arguments: reopened(side.arguments),
+        results: reopened(side.results),
+    }
 }
 
 // Places each in turn, up to the first that is refused.

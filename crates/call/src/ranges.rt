@@ -5,12 +5,10 @@ ghost use Rattle.delivery.specs.Delivering.{Sized};
 
 use machine::Instruction;
 
-// Whether the first byte is 0; what it is for is the promise.
-pub(crate) fn read_bytes(memory: &[u8]) -> bool
-    ensures each_has_8_bits { (a : ℕ) → slice_index memory.now a < 256 }
-{
-    memory.len() > 0 && memory[0] == 0
-}
+// Does nothing; what it is for is the promise.
+pub(crate) fn know_bytes(_memory: &[u8])
+    ensures each_has_8_bits { (a : ℕ) → slice_index _memory.now a < 256 }
+{}
 
 fn read_number(instruction: Instruction) -> u32
     ensures has_32_bits { Sized instruction }

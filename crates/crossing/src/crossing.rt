@@ -56,6 +56,19 @@ fn results() -> Result<Adjust<Bits>, ParameterFault> {
     Adjust::widen(4, Bits::new(&[0, 1])?)
 }
 
+// A pile, and what came to it before.
+fn used<'r, 'q, 's, P>(
+    pile: P,
+    rounds: &'r [&'q [Asked]],
+    since: &'s [Asked],
+) -> UsedPile<'r, 'q, 's, P> {
+    UsedPile {
+        pile,
+        rounds,
+        since,
+    }
+}
+
 // -3, 1,000, -600 and 40 in the homes from 128 on.
 fn homes() -> [u8; 256] {
     let mut memory = [0; 256];
@@ -106,48 +119,13 @@ fn show_side<P: Stage, Q: Stage>(
     Ok(())
 }
 
-// Bench and core have lived through unlike pasts; then one call goes across.
-pub(crate) fn show_crossing(rt: &HostRuntime) -> anyhow::Result<()> {
-    let taken = [
-        Asked::aligned(Kind::Float, 8),
-        Asked::aligned(Kind::Unsigned, 3),
-        Asked::aligned(Kind::Unsigned, 8),
-    ];
-    let bench = Side {
-        arguments: UsedPile {
-            pile: arguments()?,
-            rounds: &[&taken, &[]],
-            since: &taken,
-        },
-        results: UsedPile {
-            pile: results()?,
-            rounds: &[],
-            since: &[],
-        },
-    };
-    let core = Side {
-        arguments: UsedPile {
-            pile: arguments()?,
-            rounds: &[],
-            since: &[Asked::aligned(Kind::Address, 4)],
-        },
-        results: UsedPile {
-            pile: results()?,
-            rounds: &[&taken],
-            since: &taken,
-        },
-    };
-    let routine = Routine {
-        arguments: &[
-            Asked::aligned(Kind::Signed, 1),
-            Asked::aligned(Kind::Unsigned, 2),
-            Asked::aligned(Kind::Signed, 8),
-            Asked::aligned(Kind::Unsigned, 4),
-        ],
-        results: &[Asked::aligned(Kind::Signed, 4)],
-        kept: RegisterSet::EMPTY.with(4).with(5),
-        body: &sum(),
-    };
+// One call, with the stack pointer at 128: each side's places, both codes, and what came of it.
+fn show_call<A: Stage + Drop, B: Stage + Drop, C: Stage + Drop, D: Stage + Drop>(
+    rt: &HostRuntime,
+    bench: Side<UsedPile<A>, UsedPile<B>>,
+    core: Side<UsedPile<C>, UsedPile<D>>,
+    routine: Routine,
+) -> anyhow::Result<()> {
     let mut caller = [Instruction::Halt; 64];
     let mut callee = [Instruction::Ret; 64];
     let mut registers = [0; 32];
@@ -168,11 +146,39 @@ pub(crate) fn show_crossing(rt: &HostRuntime) -> anyhow::Result<()> {
     let Ok(ran) = called.answer else {
         return Err(anyhow!("the call is refused"));
     };
-    let (length, block) = (ran.caller_length, ran.block);
-    println!(rt; "caller {length} {block}")?;
-    show_code(rt, &caller, length)?;
-    let (length, frame) = (ran.callee_length, ran.frame);
-    println!(rt; "callee {length} {frame}")?;
-    show_code(rt, &callee, length)?;
+    show_code(rt, "caller", &caller, ran.caller_length, ran.block)?;
+    show_code(rt, "callee", &callee, ran.callee_length, ran.frame)?;
     show_run(rt, ran, called.core.arguments.held(), &memory)
+}
+
+// Bench and core have lived through unlike pasts; then one call goes across.
+pub(crate) fn show_crossing(rt: &HostRuntime) -> anyhow::Result<()> {
+    let taken = [
+        Asked::aligned(Kind::Float, 8),
+        Asked::aligned(Kind::Unsigned, 3),
+        Asked::aligned(Kind::Unsigned, 8),
+    ];
+    let word = [Asked::aligned(Kind::Address, 4)];
+    let once: [&[Asked]; 1] = [&taken];
+    let twice: [&[Asked]; 2] = [&taken, &[]];
+    let bench = Side {
+        arguments: used(arguments()?, &twice, &taken),
+        results: used(results()?, &[], &[]),
+    };
+    let core = Side {
+        arguments: used(arguments()?, &[], &word),
+        results: used(results()?, &once, &taken),
+    };
+    let routine = Routine {
+        arguments: &[
+            Asked::aligned(Kind::Signed, 1),
+            Asked::aligned(Kind::Unsigned, 2),
+            Asked::aligned(Kind::Signed, 8),
+            Asked::aligned(Kind::Unsigned, 4),
+        ],
+        results: &[Asked::aligned(Kind::Signed, 4)],
+        kept: RegisterSet::EMPTY.with(4).with(5),
+        body: &sum(),
+    };
+    show_call(rt, bench, core, routine)
 }

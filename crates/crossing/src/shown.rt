@@ -9,12 +9,15 @@ pub(crate) fn show_places(rt: &HostRuntime, held: &[Held]) -> anyhow::Result<()>
     Ok(())
 }
 
-// The first records of a list.
+// A side's code: its length and its stack bytes, and its records, the first of a list.
 pub(crate) fn show_code(
     rt: &HostRuntime,
+    side: &str,
     list: &[Instruction],
     length: usize,
+    bytes: u32,
 ) -> anyhow::Result<()> {
+    println!(rt; "{side} {length} {bytes}")?;
     for record in list.iter().take(length) {
         println!(rt; "{record}")?;
     }
@@ -24,7 +27,6 @@ pub(crate) fn show_code(
 // Bytes in hexadecimal, lowest first.
 pub(crate) fn show_bytes(rt: &HostRuntime, bytes: &[u8]) -> anyhow::Result<()> {
     for byte in bytes {
-        let byte = *byte;
         print!(rt; "{byte:02x}")?;
     }
     println!(rt; "")?;
