@@ -15,7 +15,7 @@ use stage::{ParameterFault, Refusal, Stage, raised_size};
 use values::requests::Request;
 use values::sizes::Size;
 
-// What of a request is raised, and to what at least.
+// What of a request is raised, and to what at least. A case and no closure, since no function may make one and hand it out.
 #[derive(Clone, Copy, PartialEq, Eq, Debug)]
 pub enum Change {
     Width(Size),
@@ -40,7 +40,7 @@ impl Change {
 }
 
 impl<S: Stage + Drop> Adjust<S> {
-    // Raises a smaller width to m.
+    // Raises a smaller width to m. Two makers of one line each are plainer than one that is told which.
     pub fn widen(m: u8, below: S) -> Result<Adjust<S>, ParameterFault>
         ensures refused_unless_2_4_or_8 { fault_of result ≡ width_fault m }
         ensures raises_the_width_to_m { IfOk result (λ s. (size : Size) × (s.change ≡ Width size) × (bytes size ≡ m)) }

@@ -57,7 +57,7 @@ impl Cause {
     }
 }
 
-// The line of a refusal is no part of it.
+// Not derived, since the line of a refusal is no part of it.
 impl PartialEq for PlacementFault {
     ghost eq = { λ a b. cause_number a.cause == cause_number b.cause && a.position == b.position };
 

@@ -10,7 +10,7 @@ use values::unknown::Unknown;
 use values::value_type::ValueType;
 
 // A type, and the alignment to place it at.
-#[derive(Clone, Copy)]
+#[derive(Clone, Copy, PartialEq, Eq, Debug)]
 pub(crate) struct Wanted {
     pub(crate) value: ValueType,
     pub(crate) alignment: Size,

@@ -1,7 +1,7 @@
 // What a call answers that was run.
 use machine::Outcome;
 
-#[derive(Clone, Copy)]
+#[derive(Clone, Copy, PartialEq, Eq, Debug)]
 pub struct Ran {
     pub caller_length: usize,
     pub callee_length: usize,

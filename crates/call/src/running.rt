@@ -13,7 +13,7 @@ use machine::{Instruction, MEMORY_LIMIT, Machine, Program, RunFault};
 use stage::Stage;
 
 // How many records each list has, and how many bytes the memory.
-#[derive(Clone, Copy)]
+#[derive(Clone, Copy, PartialEq, Eq, Debug)]
 struct Room {
     caller: usize,
     callee: usize,

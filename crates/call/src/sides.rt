@@ -19,7 +19,7 @@ pub struct UsedPile<'r, 'q, 's, P> {
 }
 
 // The types of a routine, each with the alignment to place it at, the registers that it keeps, and its body.
-#[derive(Clone, Copy)]
+#[derive(Clone, Copy, PartialEq, Eq, Debug)]
 pub struct Routine<'a, 'r, 'b> {
     pub arguments: &'a [Asked],
     pub results: &'r [Asked],

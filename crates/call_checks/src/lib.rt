@@ -77,10 +77,7 @@ mod tests {
     #[test]
     fn a_stack_of_eight_bytes_is_deep_enough(rt: HostRuntime) -> Result<(), Fail> {
         let ran = pass_a_word(8, &[], &mut [Instruction::Ret; 8])?;
-        let Some(ran) = ran else {
-            assert_eq!(rt; 1, 0);
-            return Ok(());
-        };
+        let ran = ran.ok_or(Fail::new("the call is refused"))?;
         assert_eq!(rt; (ran.block, ran.frame), (0, 8));
         assert_eq!(rt; ran.outcome, Outcome::Ended);
         assert_eq!(rt; ran.steps, 9);
@@ -91,10 +88,7 @@ mod tests {
     #[test]
     fn a_stack_one_byte_too_shallow_is_stuck_in_the_callee(rt: HostRuntime) -> Result<(), Fail> {
         let ran = pass_a_word(7, &[], &mut [Instruction::Ret; 8])?;
-        let Some(ran) = ran else {
-            assert_eq!(rt; 1, 0);
-            return Ok(());
-        };
+        let ran = ran.ok_or(Fail::new("the call is refused"))?;
         assert_eq!(rt; ran.outcome, Outcome::Stuck);
         assert_eq!(rt; ran.steps, 4);
         Ok(())
@@ -105,8 +99,8 @@ mod tests {
     fn a_bad_body_leaves_the_callers_list(rt: HostRuntime) -> Result<(), Fail> {
         let mut code = [Instruction::Ret; 8];
         let ran = pass_a_word(8, &[Instruction::Set { d: 30, n: 0 }], &mut code)?;
-        assert_eq!(rt; ran.is_none(), true);
-        assert_eq!(rt; matches!(code[0], Instruction::Ret), true);
+        assert!(rt; ran.is_none());
+        assert_eq!(rt; code[0], Instruction::Ret);
         Ok(())
     }
 }

@@ -9,7 +9,7 @@ use emit::faults::CodeFault;
 use machine::RunFault;
 
 // The fault of the layer that refused, whole.
-#[derive(Clone, Copy)]
+#[derive(Clone, Copy, PartialEq, Eq, Debug)]
 pub enum CallFault {
     Placement(PlacementFault),
     Code(CodeFault),

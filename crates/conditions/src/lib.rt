@@ -12,6 +12,7 @@ use values::kinds::Kind;
 use values::requests::Request;
 use values::sizes::Size;
 
+// A flag for each kind, since no stage allocates and a kind has no number.
 #[derive(Clone, Copy, PartialEq, Eq, Debug)]
 pub struct KindSet {
     unsigned: bool,

@@ -143,9 +143,7 @@ fn show_call<A: Stage + Drop, B: Stage + Drop, C: Stage + Drop, D: Stage + Drop>
     );
     show_side(rt, "bench", &called.bench)?;
     show_side(rt, "core", &called.core)?;
-    let Ok(ran) = called.answer else {
-        return Err(anyhow!("the call is refused"));
-    };
+    let ran = called.answer.map_err(|_| anyhow!("the call is refused"))?;
     show_code(rt, "caller", &caller, ran.caller_length, ran.block)?;
     show_code(rt, "callee", &callee, ran.callee_length, ran.frame)?;
     show_run(rt, ran, called.core.arguments.held(), &memory)

@@ -82,6 +82,7 @@ pub(crate) fn fill_high(value: ValueType, d: u8, s: u8, home: u32) -> Instructio
     }
 }
 
+// Down and up are two names, since the code of a call reads by them.
 pub(crate) fn stack_down(bytes: u32) -> Instruction
     ensures takes_the_bytes { result ≡ down bytes }
 {

@@ -42,7 +42,7 @@ pub(crate) fn count_saved(saved: RegisterSet) -> u32
 }
 
 // What is done with saved registers and their words. An enum, since a chain with a closure gets no proof in a generic function.
-#[derive(Clone, Copy)]
+#[derive(Clone, Copy, PartialEq, Eq, Debug)]
 pub(crate) enum WordMove {
     Save,
     Restore,

@@ -66,7 +66,7 @@ pub enum Side {
     Callee,
 }
 
-// A running machine has the index of its next instruction.
+// A running machine has the index of its next instruction. No Option, which would not say what its other case is.
 #[derive(Clone, Copy, PartialEq, Eq, Debug)]
 pub enum Mode {
     Running(Side, usize),

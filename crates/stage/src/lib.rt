@@ -20,7 +20,7 @@ use values::unknown::Unknown;
 // A request that was not granted.
 #[derive(Clone, Copy, PartialEq, Eq, Debug)]
 pub struct Refusal {
-    // The description line of the stage that refused; 0 for a built-in stage.
+    // The description line of the stage that refused; by the rules 0 for a built-in stage.
     pub line: u32,
 }
 

@@ -131,9 +131,9 @@ fn show_call(rt: &HostRuntime) -> anyhow::Result<()> {
         caller: &caller,
         callee: &callee,
     };
-    let Ok((outcome, steps)) = machine.run(&mut memory, program, 100) else {
-        return Err(anyhow!("the memory is too large"));
-    };
+    let (outcome, steps) = machine
+        .run(&mut memory, program, 100)
+        .map_err(|_| anyhow!("the memory is too large"))?;
     print!(rt; "call: {outcome} after {steps} steps")?;
     show_filled(rt, "r", &machine.registers)?;
     show_filled(rt, "byte ", &memory)?;

@@ -13,7 +13,7 @@ pub struct Request {
 }
 
 impl Request {
-    // The same request, at least m wide.
+    // The same request, at least m wide. `raised` differs in the field alone; one method that is told which is longer than both.
     pub fn widened(self, m: Size) -> Request
         ensures only_a_smaller_width_is_raised { result ≡ widened m self }
     {

@@ -1,4 +1,5 @@
-// The types of the worked cases, at their own alignments, and the answers.
+// The types of the worked cases, at their own alignments, and the answers. Written out, since a constant may call no
+// function of the repository.
 use allocation::answers::Answer;
 use allocation::asked::Asked;
 use allocation::faults::{Cause, PlacementFault};
