@@ -1,5 +1,6 @@
 -- Sizes that are given by numbers.
-use Rattle.std.proofs.Common.{◌≡◌, ℕ, Some, None, Option, refl, rules}
+use Rattle.std.proofs.Common.{◌≡◌, ℕ, Some, None, Option, refl, rules, arith}
+use Rattle.std.proofs.lemmas.Bool.Decides.{nat_tests}
 use Rattle.values.specs.Sizes.{bytes}
 use Rattle.values.specs.declared.kinds.Kind.{Kind}
 use Rattle.values.specs.declared.sizes.Size.{Size}
@@ -7,10 +8,7 @@ use Rattle.values.specs.declared.sizes.Size.TheVariants.{One, Two, Four, Eight}
 use Rattle.allocation.specs.Rules.{size_of, request_in}
 
 pub that_size : (s : Size) → size_of (bytes s) ≡ Some s
-that_size One = refl
-that_size Two = refl
-that_size Four = refl
-that_size Eight = refl
+that_size s = grind (arith, nat_tests)
 
 pub no_size : (n : ℕ) → ((s : Size) → bytes s ≡ n → ⊥) → size_of n ≡ None
 no_size n none =

@@ -1,7 +1,5 @@
 mod Places
-mod Turned
 mod Firsts
-mod Empty
 mod Granted
 mod Steps
 mod Accepts

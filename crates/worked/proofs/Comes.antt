@@ -1,14 +1,13 @@
 -- The worked cases come out.
 use Rattle.std.proofs.Common.{◌≡◌, ℕ, cond, List, Some, None, Option, refl, ap, ◌∙◌}
-use Rattle.values.specs.Sizes.{bytes}
 use Rattle.values.specs.declared.requests.Request.{Request}
-use Rattle.values.specs.declared.sizes.Size.{Size}
-use Rattle.values.specs.declared.sizes.Size.TheVariants.{One, Two, Four, Eight}
+use Rattle.values.specs.declared.sizes.Size.TheVariants.{Eight}
 use Rattle.values.specs.declared.value_type.ValueType.{ValueType}
 use Rattle.place.specs.declared.pieces.Place.{Place}
 use Rattle.stage.proofs.Runs.{along}
 use Rattle.stage.specs.Books.{Book, said, used}
-use Rattle.allocation.specs.Rules.{size_of, request_in, reaching_with, answer_for, place_answer}
+use Rattle.allocation.proofs.Numbers.{that_size}
+use Rattle.allocation.specs.Rules.{request_in, reaching_with, answer_for, place_answer}
 use Rattle.allocation.specs.States.{opened}
 use Rattle.blocks.specs.Blocks.{up_move}
 use Rattle.worked.specs.Cases.{WorkedCases, own, eight, up_after, fault}
@@ -21,12 +20,6 @@ AnswersAt n p b = used b ≡ n → said b eight ≡ p
 
 at_reach : (n : ℕ) (p : Option Place) → (up_move Eight n eight).answer ≡ p → (rs : List Request) → AnswersAt n p (up_after rs)
 at_reach n p e = along (λ k. record { reach = k; answer = λ r. (up_move Eight k r).answer }) (λ k r. (up_move Eight k r).cursor) (λ k. Unit {0}) (λ k r h. h) (AnswersAt n p) (λ k _ f. ap (λ m. (up_move Eight m eight).answer) f ∙ e) 0 tt
-
-that_size : (w : Size) → size_of (bytes w) ≡ Some w
-that_size One = refl
-that_size Two = refl
-that_size Four = refl
-that_size Eight = refl
 
 every_type_23 : (t : ValueType) → place_answer (opened shared) (own t.kind t.width) ≡ fault 23 0
 every_type_23 t =

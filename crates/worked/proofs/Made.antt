@@ -1,8 +1,9 @@
 -- Piles by what their makers say of them.
-use Rattle.std.proofs.Common.{◌≡◌, ℕ, Bool, List, Decides, refl, ap, ◌∙◌, subst, arith}
+use Rattle.std.proofs.Common.{◌≡◌, ℕ, Bool, List, Decides, ap, ◌∙◌, subst, arith}
+use Rattle.std.proofs.lemmas.Bool.Decides.{nat_tests}
 use Rattle.values.specs.Sizes.{bytes}
 use Rattle.values.specs.declared.sizes.Size.{Size}
-use Rattle.values.specs.declared.sizes.Size.TheVariants.{One, Two, Four, Eight}
+use Rattle.values.specs.declared.sizes.Size.TheVariants.{Four, Eight}
 use Rattle.stage.specs.Books.{Profile}
 use Rattle.adjust.specs.Adjusting.{changed, map_profile}
 use Rattle.adjust.specs.declared.Change.{Change}
@@ -18,16 +19,10 @@ pub told : (p q : Profile) (b : Bool) (qs : List Asked) (given : List Answer) (n
 told p q b qs given n e d = subst (λ (x : Profile). Decides b (Gives x qs given n)) e d
 
 is_four : (s : Size) → bytes s ≡ 4 → s ≡ Four
-is_four One e = absurd (omega arith)
-is_four Two e = absurd (omega arith)
-is_four Four e = refl
-is_four Eight e = absurd (omega arith)
+is_four s e = grind (arith, nat_tests)
 
 is_eight : (s : Size) → bytes s ≡ 8 → s ≡ Eight
-is_eight One e = absurd (omega arith)
-is_eight Two e = absurd (omega arith)
-is_eight Four e = absurd (omega arith)
-is_eight Eight e = refl
+is_eight s e = grind (arith, nat_tests)
 
 pub up_eight : (s : Size) → bytes s ≡ 8 → up_profile s ≡ up_profile Eight
 up_eight s e = ap up_profile (is_eight s e)

@@ -3,7 +3,7 @@ use Rattle.std.proofs.lemmas.List.{at_drop_all}
 use Rattle.std.proofs.lemmas.Bool.{false≢true}
 use Rattle.values.specs.declared.kinds.Kind.TheVariants.{Unsigned}
 use Rattle.allocation.specs.States.{state}
-use Rattle.histories.proofs.Turns.{same_now, same_later, same_all}
+use Rattle.histories.proofs.Turns.{same_now}
 use Rattle.histories.proofs.Twins.{equal_answers}
 use Rattle.histories.specs.Histories.{answers, answers_in, history}
 use Rattle.allocation.specs.declared.asked.Asked.{Asked}
@@ -11,17 +11,6 @@ use Rattle.histories.proofs.plays.place_alike.Goals as goal
 
 abbrev unused : Asked
 unused = record { kind = Unsigned; width = 0; alignment = 0 }
-
-pub loop-asked-preserved : goal.loop-asked-preserved
-loop-asked-preserved g c =
-    let a = state g.P.Stage c.loop-asked.one in
-    let b = state g.Q.Stage c.loop-asked.other in
-    let one = c.place-answer.ensures in
-    let other = c.place-counterpart.ensures in
-    let same = sym one.answers_by_the_rules ∙ c.if-not-same_answer.ensures.by_place_or_by_number_and_position.0 refl ∙ other.answers_by_the_rules in (
-      λ e. c.loop-asked.invariant.0 (same_all a b c.args.since.now c.loop-asked.asked-index unused c.loop-asked-test.true _ _ one.moves_by_the_rules other.moves_by_the_rules same e),
-      λ e. same_later a b c.args.since.now c.loop-asked.asked-index unused c.loop-asked-test.true _ _ one.moves_by_the_rules other.moves_by_the_rules (c.loop-asked.invariant.1 e),
-    )
 
 pub returns-then-not-same_answer : goal.returns-then-not-same_answer
 returns-then-not-same_answer g c =

@@ -1,13 +1,10 @@
 use Rattle.std.proofs.Common.{[], get_or, sym, ap, ◌∙◌, subst}
 use Rattle.allocation.specs.States.{State, opened}
 use Rattle.histories.proofs.After.{lawful_after}
-use Rattle.histories.proofs.Rounds.{own_profile, round_reopens, rounds_leave_nothing}
+use Rattle.histories.proofs.Rounds.{round_reopens, rounds_leave_nothing}
 use Rattle.histories.specs.Histories.{history, placed_all}
 use Rattle.histories.specs.Laws.{LawfulAllocation}
 use Rattle.histories.proofs.plays.play.Goals as goal
-
-pub loop-round-init : goal.loop-round-init
-loop-round-init g c = own_profile _ _ c.new-allocation.ensures.newly_opened
 
 pub loop-round-preserved : goal.loop-round-preserved
 loop-round-preserved g c =
