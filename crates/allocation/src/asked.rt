@@ -3,7 +3,7 @@ ghost use Rattle.std.specs.Prelude.{◌≡◌};
 
 use values::kinds::Kind;
 
-// A kind, and a width and an alignment in bytes, as given.
+// A kind, and a width and an alignment in bytes, as given: numbers, since by the rules one that is no size is refused.
 #[derive(Clone, Copy, PartialEq, Eq, Debug)]
 pub struct Asked {
     pub kind: Kind,

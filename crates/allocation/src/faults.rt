@@ -45,6 +45,7 @@ impl From<Unknown> for Cause {
 }
 
 impl Cause {
+    // A method, since a conversion to a number would not say that it is the fault's.
     pub fn number(self) -> u8
         ensures its_number { result ≡ cause_number self }
     {

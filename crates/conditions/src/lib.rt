@@ -21,6 +21,7 @@ pub struct KindSet {
     address: bool,
 }
 
+// Cases and no closure, since no function may make one and hand it out.
 #[derive(Clone, Copy, PartialEq, Eq, Debug)]
 pub enum Rule {
     Kinds(KindSet),

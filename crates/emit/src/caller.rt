@@ -52,7 +52,8 @@ impl<P: Stage, Q: Stage> SideCode for Caller<'_, P, Q> {
     }
 }
 
-// The length of the caller's code for these allocations, and the stack bytes that it takes.
+// The length of the caller's code for these allocations, and the stack bytes that it takes. The code calls take what a
+// caller has at hand one by one, which is plainer at a call than a struct of it.
 // It is refused where there is room for fewer records.
 pub fn caller_size<P: Stage, Q: Stage>(
     arguments: &Frozen<P>,

@@ -21,6 +21,7 @@ pub(crate) fn offset(n: u32) -> i16
     (n % 0x8000) as i16
 }
 
+// A function and no conversion, since it is not exact: 8 bytes are moved by 4.
 pub(crate) fn moved(size: Size) -> Width
     ensures at_most_4_bytes { result ≡ moved size }
 {

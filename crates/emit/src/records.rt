@@ -4,7 +4,8 @@ ghost use Rattle.emit.specs.Emitting.{code_of, Appends};
 
 use machine::Instruction;
 
-// A list that is lent, and how many records were written from its front on; past its end they are only counted.
+// A list that is lent, and how many records were written from its front on; past its end they are only counted. So each
+// writer says how far the count may be and how far it goes: one that stops at its limit would need the same bounds.
 #[derive(Drop)]
 pub(crate) struct Records<'a> {
     list: &'a mut [Instruction],

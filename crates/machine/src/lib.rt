@@ -46,6 +46,7 @@ pub enum Instruction {
         b: u8,
         i: i16,
         width: Width,
+        // A flag, since by the rules a load is marked so or not.
         signed: bool,
     },
     Store {
@@ -104,6 +105,7 @@ pub struct Machine {
 pub const MEMORY_LIMIT: usize = 65_536;
 
 impl Width {
+    // A method, since a conversion to a number would not say that it counts bytes.
     pub fn bytes(self) -> usize
         ensures bytes_of_the_width { result ≡ bytes_of self }
     {

@@ -2,7 +2,7 @@
 ghost use Rattle.std.specs.Prelude.{◌≡◌, ◌<◌, bit_or};
 ghost use Rattle.place.specs.Registers.{has, with, apart};
 
-// Bit r stands for register r.
+// Bit r stands for register r. A set of the library would allocate, or want a name for each bit.
 #[derive(Clone, Copy, PartialEq, Eq, Debug)]
 pub struct RegisterSet {
     pub bits: u32,

@@ -57,7 +57,8 @@ impl From<Unknown> for ParameterFault {
     }
 }
 
-// The size of n bytes, where it is one that a layer can test for or raise to.
+// The size of n bytes, where it is one that a layer can test for or raise to. Makers take a number, since by the rules one
+// that is no such size is refused.
 pub fn raised_size(n: u8) -> Result<Size, ParameterFault>
     ensures refused_unless_2_4_or_8 { fault_of result ≡ width_fault n }
     ensures of_n_bytes { IfOk result (λ s. bytes s ≡ n) }

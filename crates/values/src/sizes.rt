@@ -13,6 +13,7 @@ pub enum Size {
 }
 
 impl Size {
+    // A method, since a conversion to a number would not say that it counts bytes.
     pub fn bytes(self) -> u16
         ensures its_number_of_bytes { result ≡ bytes self }
     {
