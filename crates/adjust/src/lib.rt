@@ -15,7 +15,8 @@ use stage::{ParameterFault, Refusal, Stage, raised_size};
 use values::requests::Request;
 use values::sizes::Size;
 
-// What of a request is raised, and to what at least. A case and no closure, since no function may make one and hand it out.
+// What of a request is raised, and to what at least. A case and no
+// closure, which no function may make and hand out, nor a type parameter, so that both layers are one type of stage.
 #[derive(Clone, Copy, PartialEq, Eq, Debug)]
 pub enum Change {
     Width(Size),
@@ -40,7 +41,7 @@ impl Change {
 }
 
 impl<S: Stage + Drop> Adjust<S> {
-    // Raises a smaller width to m. Two makers of one line each are plainer than one that is told which.
+    // Raises a smaller width to m. `raise` differs in the case alone; one maker that is told which is longer than both.
     pub fn widen(m: u8, below: S) -> Result<Adjust<S>, ParameterFault>
         ensures refused_unless_2_4_or_8 { fault_of result ≡ width_fault m }
         ensures raises_the_width_to_m { IfOk result (λ s. (size : Size) × (s.change ≡ Width size) × (bytes size ≡ m)) }

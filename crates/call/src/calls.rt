@@ -86,7 +86,8 @@ fn place_and_run<A: Stage, B: Stage, C: Stage, D: Stage>(
 
 // One call from bench to core: opens the piles, plays what came to each before, and reopens; places the routine's types
 // on both sides; codes both, and runs. The two lists, the registers and the memory are lent, each by itself: of a struct
-// with such fields every clause would have to say too that each is still the one that was lent.
+// with such fields every clause would have to say too that each is still the one that was lent. Bench and core are two: a
+// struct of both would only put their four piles one level deeper.
 pub fn call<A: Stage, B: Stage, C: Stage, D: Stage>(
     bench: Side<UsedPile<A>, UsedPile<B>>,
     core: Side<UsedPile<C>, UsedPile<D>>,

@@ -1,4 +1,5 @@
-// What the types of a list's elements say of all of them at once. A proof learns it where one of them is read.
+// What the types of a list's elements say of all of them at once. A proof learns it of a list of numbers that a function
+// is given, and of other elements where one of them is read.
 ghost use Rattle.std.specs.Prelude.{ℕ, ◌<◌, slice_index};
 ghost use Rattle.std.specs.List.{AllByRecursion};
 ghost use Rattle.delivery.specs.Delivering.{Sized};

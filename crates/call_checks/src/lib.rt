@@ -77,7 +77,7 @@ mod tests {
     #[test]
     fn a_stack_of_eight_bytes_is_deep_enough(rt: HostRuntime) -> Result<(), Fail> {
         let ran = pass_a_word(8, &[], &mut [Instruction::Ret; 8])?;
-        let ran = ran.ok_or(Fail::new("the call is refused"))?;
+        let ran = ran.ok_or_else(|| Fail::new("the call is refused"))?;
         assert_eq!(rt; (ran.block, ran.frame), (0, 8));
         assert_eq!(rt; ran.outcome, Outcome::Ended);
         assert_eq!(rt; ran.steps, 9);
@@ -88,7 +88,7 @@ mod tests {
     #[test]
     fn a_stack_one_byte_too_shallow_is_stuck_in_the_callee(rt: HostRuntime) -> Result<(), Fail> {
         let ran = pass_a_word(7, &[], &mut [Instruction::Ret; 8])?;
-        let ran = ran.ok_or(Fail::new("the call is refused"))?;
+        let ran = ran.ok_or_else(|| Fail::new("the call is refused"))?;
         assert_eq!(rt; ran.outcome, Outcome::Stuck);
         assert_eq!(rt; ran.steps, 4);
         Ok(())

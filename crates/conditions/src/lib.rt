@@ -12,7 +12,7 @@ use values::kinds::Kind;
 use values::requests::Request;
 use values::sizes::Size;
 
-// A flag for each kind, since no stage allocates and a kind has no number.
+// A flag for each kind: a set of the library would allocate, which no stage does, or give each kind a second name.
 #[derive(Clone, Copy, PartialEq, Eq, Debug)]
 pub struct KindSet {
     unsigned: bool,
@@ -21,7 +21,7 @@ pub struct KindSet {
     address: bool,
 }
 
-// Cases and no closure, since no function may make one and hand it out.
+// Cases and no closure, which no function may make and hand out, nor a type parameter, so that every test is of one type.
 #[derive(Clone, Copy, PartialEq, Eq, Debug)]
 pub enum Rule {
     Kinds(KindSet),

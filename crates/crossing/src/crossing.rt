@@ -73,11 +73,8 @@ fn used<'r, 'q, 's, P>(
 fn homes() -> [u8; 256] {
     let mut memory = [0; 256];
     memory[128] = 0xFD;
-    memory[136] = 0xE8;
-    memory[137] = 0x03;
-    memory[144] = 0xA8;
-    memory[145] = 0xFD;
-    memory[146..152].fill(0xFF);
+    memory[136..138].copy_from_slice(&1000u16.to_le_bytes());
+    memory[144..152].copy_from_slice(&(-600i64).to_le_bytes());
     memory[152] = 40;
     memory
 }

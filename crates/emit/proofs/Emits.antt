@@ -58,8 +58,8 @@ pub one_record : (x : Instruction) (now next : Records) → Appends (x ∷ []) n
 one_record x now next p = let end : next.len ≡ now.len + 1 = ap (λ (c : Code). c.at) p.code in omega arith
 
 module _ (before : Records) (i : ℕ) (now : Records) where
-  pub homes_kept : (g : Holding → ℕ → List Instruction) (hs : List Held) (h : ℕ) → Left (each_home g (map holding hs) h) before (4 * i) (each_home g (map holding (drop i hs)) (h + 8 * i)) now → (x : Held) (next : Records) → i < length hs → x ≡ get_or hs i x → Appends (g (holding x) (h + 8 * i)) now next → next.len ≤ now.len + 4 → Left (each_home g (map holding hs) h) before (4 * (i + 1)) (each_home g (map holding (drop (i + 1) hs)) (h + 8 * (i + 1))) next
-  homes_kept g hs h left x next l e p few =
+  pub homes_left : (g : Holding → ℕ → List Instruction) (hs : List Held) (h : ℕ) → Left (each_home g (map holding hs) h) before (4 * i) (each_home g (map holding (drop i hs)) (h + 8 * i)) now → (x : Held) (next : Records) → i < length hs → x ≡ get_or hs i x → Appends (g (holding x) (h + 8 * i)) now next → next.len ≤ now.len + 4 → Left (each_home g (map holding hs) h) before (4 * (i + 1)) (each_home g (map holding (drop (i + 1) hs)) (h + 8 * (i + 1))) next
+  homes_left g hs h left x next l e p few =
       let home : h + 8 * (i + 1) ≡ h + 8 * i + 8 = omega arith in
       record {
         same_list = p.same_list ∙ left.same_list;

@@ -1,4 +1,5 @@
 mod Emits
+mod Turns
 mod Same
 mod Saved
 mod Searches

@@ -16,10 +16,10 @@ fn accepts(x: Instruction, homes: u16) -> bool
 {
     match x {
         Instruction::Set { d, .. } => d < 30,
-        Instruction::Mov { d, s } => d < 30 && s < 32,
         Instruction::Add { d, s, t } => d < 30 && s < 32 && t < 32,
-        Instruction::Addi { d, s, .. } => d < 30 && s < 32,
-        Instruction::Sign { d, s } => d < 30 && s < 32,
+        Instruction::Mov { d, s } | Instruction::Addi { d, s, .. } | Instruction::Sign { d, s } => d
+            < 30
+            && s < 32,
         Instruction::Load { d, b, i, width, .. } => d < 30
             && b == 31
             && within_homes(i, width, homes),

@@ -71,7 +71,8 @@ impl<P: Stage, Q: Stage> SideCode for Callee<'_, P, Q> {
     }
 }
 
-// The length of the callee's code for these allocations and this body, and the stack bytes that it takes.
+// The length of the callee's code for these allocations and this body, and the stack bytes that it takes. What a caller has
+// at hand is taken one by one, as for the caller's code.
 // It is refused where there is room for fewer records.
 pub fn callee_size<P: Stage, Q: Stage>(
     arguments: &Frozen<P>,

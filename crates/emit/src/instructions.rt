@@ -1,7 +1,7 @@
 // The instructions that a call's code is made of.
 ghost use Rattle.std.specs.Prelude.{◌≡◌, ◌≤◌, false, neg_ℤ};
 ghost use Rattle.delivery.specs.Code.{offset, moved, through, by_sign, fill_further, down, up};
-ghost use Rattle.machine.specs.declared.Instruction.TheVariants.{Load, Store};
+ghost use Rattle.machine.specs.declared.Instruction.TheVariants.{Addi, Load, Store};
 
 use machine::{Instruction, Width};
 use place::pieces::Piece;
@@ -46,10 +46,7 @@ pub(crate) fn through(piece: Piece) -> u8
 fn by_sign(kind: Kind) -> bool
     ensures signed_kinds_alone { result ≡ by_sign kind }
 {
-    match kind {
-        Kind::Signed => true,
-        Kind::Unsigned | Kind::Float | Kind::Address => false,
-    }
+    kind == Kind::Signed
 }
 
 // The low piece of a value, from its home into register d.
@@ -83,25 +80,26 @@ pub(crate) fn fill_high(value: ValueType, d: u8, s: u8, home: u32) -> Instructio
     }
 }
 
-// Down and up are two names, since the code of a call reads by them.
-pub(crate) fn stack_down(bytes: u32) -> Instruction
-    ensures takes_the_bytes { result ≡ down bytes }
+fn move_stack(i: i16) -> Instruction
+    ensures adds_to_the_stack_pointer { result ≡ Addi 31 31 i }
 {
     Instruction::Addi {
         d: STACK_POINTER,
         s: STACK_POINTER,
-        i: -offset(bytes),
+        i,
     }
+}
+
+pub(crate) fn stack_down(bytes: u32) -> Instruction
+    ensures takes_the_bytes { result ≡ down bytes }
+{
+    move_stack(-offset(bytes))
 }
 
 pub(crate) fn stack_up(bytes: u32) -> Instruction
     ensures gives_the_bytes_back { result ≡ up bytes }
 {
-    Instruction::Addi {
-        d: STACK_POINTER,
-        s: STACK_POINTER,
-        i: offset(bytes),
-    }
+    move_stack(offset(bytes))
 }
 
 pub(crate) fn load(d: u8, at: u32, width: Width) -> Instruction

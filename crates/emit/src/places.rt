@@ -18,6 +18,7 @@ pub(crate) trait HomeCode {
     // The code for a place whose home lies at an offset.
     ghost code: { Self → Holding → ℕ → List Instruction };
 
+    // Here and below `near` says how far an offset lies: with a type for it each sum of two would have to make one.
     fn put(&self, records: &mut Records, held: Held, home: u32)
         requires room { records.old.len < 2 ^ 30 }
         requires near { home ≤ 100000 }

@@ -42,7 +42,7 @@ fn count<S: SideCode>(side: &S) -> usize
     records.len()
 }
 
-// The length of the code and its stack bytes; it is refused where there is room for fewer records.
+// The length of the code and its stack bytes, by the rules a pair; it is refused where there is room for fewer records.
 pub(crate) fn size<S: SideCode>(side: &S, room: usize) -> Result<(usize, u32), CodeFault>
     ensures lowest_number_first { fault_in result ≡ short_fault (S.fault side.now) (length (S.code side.now)) room }
     ensures length_and_stack_bytes { IfOk result (λ x. (x.0 ≡ length (S.code side.now)) × (x.1 ≡ S.bytes side.now)) }

@@ -144,11 +144,7 @@ fn show_call(rt: &HostRuntime) -> anyhow::Result<()> {
 fn run(rt: &HostRuntime) -> anyhow::Result<()> {
     show(rt, wide()?, "u1 s8 u2")?;
     show(rt, wide()?, "f8 f8 u1 s8")?;
-    show(
-        rt,
-        Over::new(Shut::new(Bits::new(&[0, 1])?), Up::new(8)?),
-        "u4 u8 u4",
-    )?;
+    show(rt, convention()?, "u4 u8 u4")?;
     show(rt, Over::new(Bits::new(&[0, 1])?, Up::new(8)?), "u4 u8 u4")?;
     show(rt, Count::new(&[0, 1])?, "u8 u4")?;
     show(rt, floats_apart()?, "f4 u1 u2 f4 f4 a4")?;

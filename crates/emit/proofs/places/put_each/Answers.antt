@@ -1,11 +1,11 @@
 use Rattle.std.proofs.Common.{◌+◌, ◌*◌, map, refl, arith}
 use Rattle.allocation.specs.States.{holding}
 use Rattle.delivery.specs.Code.{each_home}
-use Rattle.emit.proofs.Emits.{homes_kept, none_left}
+use Rattle.emit.proofs.Emits.{homes_left, none_left}
 use Rattle.emit.proofs.places.put_each.Goals as goal
 
 pub loop-i-preserved : goal.loop-i-preserved
-loop-i-preserved g c = homes_kept _ _ _ _ _ _ c.loop-i.invariant c.index-held-i.result _ c.loop-i-test.true c.index-held-i.is c.put.ensures.code_for_the_place c.put.ensures.few
+loop-i-preserved g c = homes_left _ _ _ _ _ _ c.loop-i.invariant c.index-held-i.result _ c.loop-i-test.true c.index-held-i.is c.put.ensures.code_for_the_place c.put.ensures.few
 
 pub returns : goal.returns
 returns g c = record {
