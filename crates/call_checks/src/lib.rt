@@ -20,6 +20,15 @@ mod tests {
         alignment: 4,
     };
 
+    // A pile that nothing came to before.
+    fn unused<P>(pile: P) -> UsedPile<'static, 'static, 'static, P> {
+        UsedPile {
+            pile,
+            rounds: &[],
+            since: &[],
+        }
+    }
+
     // One word goes from r0 at the bench to the callee's home, and nothing comes back; the stack pointer starts at sp.
     fn pass_a_word(
         sp: u32,
@@ -32,11 +41,7 @@ mod tests {
                 rounds: &[],
                 since: &[WORD],
             },
-            results: UsedPile {
-                pile: Count::new(&[1])?,
-                rounds: &[],
-                since: &[],
-            },
+            results: unused(Count::new(&[1])?),
         };
         let core = Side {
             arguments: UsedPile {
@@ -44,11 +49,7 @@ mod tests {
                 rounds: &[&[WORD, WORD]],
                 since: &[],
             },
-            results: UsedPile {
-                pile: Count::new(&[1])?,
-                rounds: &[],
-                since: &[],
-            },
+            results: unused(Count::new(&[1])?),
         };
         let routine = Routine {
             arguments: &[WORD],
