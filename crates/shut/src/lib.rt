@@ -13,6 +13,7 @@ use values::requests::Request;
 
 #[derive(Drop)]
 pub struct Shut<S> {
+    // A flag and no type of its own for each state, since placing closes it in place.
     closed: bool,
     below: S,
 }
