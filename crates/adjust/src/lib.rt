@@ -15,8 +15,8 @@ use stage::{ParameterFault, Refusal, Stage, raised_size};
 use values::requests::Request;
 use values::sizes::Size;
 
-// What of a request is raised, and to what at least. A case and no
-// closure, which no function may make and hand out, nor a type parameter, so that both layers are one type of stage.
+// What of a request is raised, and to what at least. Two cases, since a trait with an instance for each would be longer than
+// the match.
 #[derive(Clone, Copy, PartialEq, Eq, Debug)]
 pub enum Change {
     Width(Size),

@@ -35,7 +35,7 @@ fn freeze<P: Stage, Q: Stage>(side: Side<Open<P>, Open<Q>>) -> Side<Frozen<P>, F
     }
 }
 
-// Codes and runs what was placed; a refusal of placing ends the call.
+// Everything is taken one by one here and below, for the reason at `call`. Codes and runs what was placed; a refusal of placing ends the call.
 fn run_placed<A: Stage, B: Stage, C: Stage, D: Stage>(
     placed: Result<(), PlacementFault>,
     bench: &Side<Frozen<A>, Frozen<B>>,

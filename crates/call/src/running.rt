@@ -44,7 +44,7 @@ fn check_call<A: Stage, B: Stage, C: Stage, D: Stage>(
     Ok(())
 }
 
-// Writes both codes and runs them from these registers, which then have what the run left; a refusal changes nothing.
+// Everything is taken one by one, as by `call`. Writes both codes and runs them from these registers, which then have what the run left; a refusal changes nothing.
 pub(crate) fn code_and_run<A: Stage, B: Stage, C: Stage, D: Stage>(
     bench: &Side<Frozen<A>, Frozen<B>>,
     core: &Side<Frozen<C>, Frozen<D>>,

@@ -21,7 +21,7 @@ pub struct KindSet {
     address: bool,
 }
 
-// Cases and no closure, which no function may make and hand out, nor a type parameter, so that every test is of one type.
+// Two cases, since a trait with an instance for each would be longer than the match.
 #[derive(Clone, Copy, PartialEq, Eq, Debug)]
 pub enum Rule {
     Kinds(KindSet),

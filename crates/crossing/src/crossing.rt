@@ -47,8 +47,8 @@ fn sum() -> [Instruction; 8] {
     ]
 }
 
-// Every argument at least 4 bytes wide, in four registers first and then in the block. The other program makes such a pile
-// too: both are short of a crate between them, and one line is no reason for it.
+// Every argument at least 4 bytes wide, in four registers first and then in the block. The other program has a line like
+// this too; a crate for it would not be plainer.
 fn arguments() -> Result<Adjust<Over<Bits, Up>>, ParameterFault> {
     Adjust::widen(4, Over::new(Bits::new(&[0, 1, 2, 3])?, Up::new(8)?))
 }

@@ -18,8 +18,8 @@ fn place_each<P: Stage>(allocation: &mut Open<P>, since: &[Asked])
     }
 }
 
-// Opens the pile; places, freezes and reopens, round by round; then places what came since. A struct of the three would be
-// longer at each call than they are.
+// Opens the pile; places, freezes and reopens, round by round; then places what came since. Here and below a pile and what
+// came to it are parameters of their own: a struct of them would be longer at most calls.
 pub fn play<P: Stage>(pile: P, rounds: &[&[Asked]], since: &[Asked]) -> Open<P>
     ensures plays_the_history { state P.Stage result ≡ played (P.Stage.profile pile) (history rounds.now since.now) }
     ensures lawful_after_this_history { LawfulAllocation (P.Stage.profile pile) (history rounds.now since.now) (state P.Stage result) }

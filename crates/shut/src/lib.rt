@@ -13,7 +13,7 @@ use values::requests::Request;
 
 #[derive(Drop)]
 pub struct Shut<S> {
-    // A flag and no type of its own for each state, since placing closes it in place.
+    // A flag, since an enum of both states would hold the stage in each of them.
     closed: bool,
     below: S,
 }

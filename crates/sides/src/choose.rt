@@ -47,6 +47,7 @@ impl<A: Stage, B: Stage> Stage for Choose<A, B> {
         }
     }
 
+    // What follows but `endless` passes on to the pair, as in `over`: a trait for both would have the same methods once more.
     fn clear(&mut self) {
         self.sides.clear();
     }

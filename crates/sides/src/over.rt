@@ -36,7 +36,7 @@ impl<A: Stage, B: Stage> Stage for Over<A, B> {
     ghost lawful = { λ s. over_lawful _ _ _ _ (A.Stage.lawful s.sides.first) (B.Stage.lawful s.sides.second) };
 
     fn place(&mut self, request: Request) -> Result<Place, Refusal> {
-        // A proof would not know what the closure of `or_else` made of the second stage.
+        // Tried with `or_else`: a proof does not know what its closure made of the second stage.
         match self.sides.first.place(request) {
             Ok(place) => Ok(place),
             Err(_) => self.sides.second.place(request),

@@ -42,7 +42,8 @@ fn show<S: Stage + Drop>(rt: &HostRuntime, mut pile: S, signature: &str) -> anyh
     Ok(())
 }
 
-// Every value at least 4 bytes wide; registers first, then the block.
+// Every value at least 4 bytes wide; registers first, then the block. The other program has a line like this too; a crate for
+// it would not be plainer.
 fn wide() -> Result<Adjust<Over<Bits, Up>>, ParameterFault> {
     let pile = Over::new(Bits::new(&[0, 1, 2, 3])?, Up::new(8)?);
     Adjust::widen(4, pile)
