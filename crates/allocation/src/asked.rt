@@ -4,7 +4,7 @@ ghost use Rattle.std.specs.Prelude.{◌≡◌};
 use values::kinds::Kind;
 
 // A kind, and a width and an alignment in bytes, as given: numbers, since by the rules one that is no size is refused.
-#[derive(Clone, Copy, PartialEq, Eq, Debug)]
+#[derive(Clone, Copy, PartialEq, Eq, Debug, Default)]
 pub struct Asked {
     pub kind: Kind,
     pub width: u8,

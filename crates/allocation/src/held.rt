@@ -6,8 +6,6 @@ ghost use Rattle.values.specs.declared.kinds.Kind.TheVariants.{Unsigned};
 ghost use Rattle.values.specs.declared.sizes.Size.TheVariants.{One};
 
 use place::pieces::{Piece, Place};
-use values::kinds::Kind;
-use values::sizes::Size;
 use values::value_type::ValueType;
 
 // A place that was granted, and the type that it was granted for.
@@ -26,10 +24,7 @@ impl Default for Held {
 
     fn default() -> Held {
         Held {
-            value: ValueType {
-                kind: Kind::Unsigned,
-                width: Size::One,
-            },
+            value: ValueType::default(),
             place: Place::Single(Piece::Register(0)),
         }
     }

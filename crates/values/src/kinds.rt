@@ -4,8 +4,9 @@ ghost use Rattle.values.specs.Kinds.{letter_of, KindOfTheLetterOrNone};
 
 use crate::unknown::Unknown;
 
-#[derive(Clone, Copy, PartialEq, Eq, Debug)]
+#[derive(Clone, Copy, PartialEq, Eq, Debug, Default)]
 pub enum Kind {
+    #[default]
     Unsigned,
     Signed,
     // The bits of a floating-point number.

@@ -1,6 +1,8 @@
 // Types of values: from a kind and a width, from a word, as a word, as a request.
 ghost use Rattle.std.specs.Prelude.{◌≡◌, true, Some, MatchResult, ◌≢◌};
 ghost use Rattle.values.specs.Kinds.{is_type};
+ghost use Rattle.values.specs.declared.kinds.Kind.TheVariants.{Unsigned};
+ghost use Rattle.values.specs.declared.sizes.Size.TheVariants.{One};
 ghost use Rattle.values.specs.Types.{word_of, own_request, TypeWithTheWordOrNone};
 
 use crate::kinds::Kind;
@@ -35,6 +37,18 @@ impl ValueType {
             kind: self.kind,
             width: self.width,
             alignment: self.width,
+        }
+    }
+}
+
+// What stands where no type was written.
+impl Default for ValueType {
+    ghost is_default = { λ t. (t.kind ≡ Unsigned) × (t.width ≡ One) };
+
+    fn default() -> ValueType {
+        ValueType {
+            kind: Kind::Unsigned,
+            width: Size::One,
         }
     }
 }
