@@ -2,6 +2,9 @@
 #![tactic(auto)]
 
 #[cfg(test)]
+mod word_for_word;
+
+#[cfg(test)]
 mod tests {
     use adjust::Adjust;
     use allocation::asked::Asked;
@@ -118,32 +121,54 @@ mod tests {
     fn a_list_one_short_is_34(rt: HostRuntime) -> Result<(), Fail> {
         let arguments = arguments()?;
         let results = results(1)?;
-        let refused = caller_code(&arguments, &results, kept(9), &mut [Instruction::Ret; 8]);
+        let mut short = [Instruction::Ret; 8];
+        let refused = caller_code(&arguments, &results, kept(9), &mut short);
         assert_eq!(rt; refused.err(), Some(CodeFault::TooShort));
+        assert_eq!(rt; short, [Instruction::Ret; 8]);
         let sized = caller_size(&arguments, &results, kept(9), 9);
         assert_eq!(rt; sized.ok(), Some((9, 8)));
         let mut short = [Instruction::Halt; 15];
         let refused = callee_code(&arguments, &results, kept(9), &sum(), &mut short);
         assert_eq!(rt; refused.err(), Some(CodeFault::TooShort));
+        assert_eq!(rt; short, [Instruction::Halt; 15]);
         Ok(())
     }
 
-    // r29 may be written, r30 may not; 256 instructions are the most.
+    // r29 may be written, r30 may not.
     #[test]
-    fn a_bad_body_is_33_at_its_index(rt: HostRuntime) -> Result<(), Fail> {
-        let arguments = arguments()?;
-        let results = results(1)?;
+    fn a_body_that_writes_the_link_is_33_at_its_index(rt: HostRuntime) -> Result<(), Fail> {
         let link = [
             Instruction::Set { d: 29, n: 0 },
             Instruction::Set { d: 30, n: 0 },
         ];
-        let refused = callee_size(&arguments, &results, kept(9), &link, 1000);
+        let refused = callee_size(&arguments()?, &results(1)?, kept(9), &link, 1000);
         assert_eq!(rt; refused.err(), Some(CodeFault::Body(1)));
-        let long = [Instruction::Set { d: 0, n: 0 }; 257];
-        let refused = callee_size(&arguments, &results, kept(9), &long, 1000);
+        Ok(())
+    }
+
+    // The callee's code has 8 records besides.
+    #[test]
+    fn a_body_of_256_instructions_is_coded(rt: HostRuntime) -> Result<(), Fail> {
+        let body = [Instruction::Set { d: 0, n: 0 }; 256];
+        let sized = callee_size(&arguments()?, &results(1)?, kept(9), &body, 264);
+        assert_eq!(rt; sized.ok(), Some((264, 32)));
+        let mut code = [Instruction::Halt; 264];
+        let made = callee_code(&arguments()?, &results(1)?, kept(9), &body, &mut code);
+        assert_eq!(rt; made.ok(), Some((264, 32)));
+        assert_eq!(rt; (code[5], code[260]), (body[0], body[255]));
+        assert_eq!(rt; code[263], Instruction::Ret);
+        Ok(())
+    }
+
+    #[test]
+    fn a_body_of_257_instructions_is_33_at_index_256(rt: HostRuntime) -> Result<(), Fail> {
+        let body = [Instruction::Set { d: 0, n: 0 }; 257];
+        let refused = callee_size(&arguments()?, &results(1)?, kept(9), &body, 1000);
         assert_eq!(rt; refused.err(), Some(CodeFault::Body(256)));
-        let most = callee_size(&arguments, &results, kept(9), &long[1..], 264);
-        assert_eq!(rt; most.ok(), Some((264, 32)));
+        let mut code = [Instruction::Halt; 300];
+        let refused = callee_code(&arguments()?, &results(1)?, kept(9), &body, &mut code);
+        assert_eq!(rt; refused.err(), Some(CodeFault::Body(256)));
+        assert!(rt; code.iter().all(|x| *x == Instruction::Halt));
         Ok(())
     }
 

@@ -1,5 +1,5 @@
 -- Places are filled from homes.
-use Rattle.std.proofs.Common.{◌≡◌, ℕ, ◌+◌, ◌^◌, ◌<◌, ◌≤◌, Bool, true, false, ltb, List, [], ◌∷◌, ◌++◌, length, sym, refl, ap, ◌∙◌, subst, add_assoc, arith}
+use Rattle.std.proofs.Common.{◌≡◌, ℕ, ◌+◌, ◌^◌, ◌<◌, ◌≤◌, Bool, true, ltb, List, [], ◌∷◌, ◌++◌, length, sym, refl, ap, ◌∙◌, subst, add_assoc, arith}
 use Rattle.std.proofs.ByRecursion.{All-weaker}
 use Rattle.std.proofs.lemmas.Bool.{lt-ltb}
 use Rattle.std.specs.List.{AllByRecursion}
@@ -26,7 +26,7 @@ use Rattle.delivery.proofs.Leading.{Leads, leads_then, leads_weaker, leads_end, 
 use Rattle.delivery.proofs.Memory.{AgreeFrom, word_same}
 use Rattle.delivery.proofs.Places.{PieceHas, PlaceHas, AllHave, Carried, piece_carried, place_carried, Misses, Clear, shielded_carried, shielded_apart, shielded_all, pieces_apart, through_below, Sound, pieces_sound, moved_bytes, moved_small, beside_part, misses_above}
 use Rattle.delivery.proofs.Steps.{set_step, load_offset, store_offset}
-use Rattle.delivery.proofs.Widths.{upper, further, loaded_byte, further_byte, sign_below, widened_same}
+use Rattle.delivery.proofs.Widths.{upper, further, whole_loaded, loaded_byte, further_byte, sign_below, widened_same}
 
 -- an instruction that makes a piece's value, and what puts it into its place
 fill_piece :
@@ -64,8 +64,8 @@ further_step One t sp d s home x v n r p q e near room = upper_step t d s x v n 
 further_step Two t sp d s home x v n r p q e near room = upper_step t d s x v n p q e
 further_step Four t sp d s home x v n r p q e near room = upper_step t d s x v n p q e
 further_step Eight t sp d s home x v n r p q e near room =
-    leads_weaker (fill_further t Eight 1 d s home ∷ []) x (load_offset sp d (home + 4) Widths.Four false x n r p (omega arith) (omega arith)) λ y got.
-    (got.0 ∙ ap (λ a. word x.mem a 4) (sym (add_assoc sp home 4)), got.1)
+    leads_weaker (fill_further t Eight 1 d s home ∷ []) x (load_offset sp d (home + 4) Widths.Four (by_sign t) x n r p (omega arith) (omega arith)) λ y got.
+    (got.0 ∙ whole_loaded (by_sign t) (word x.mem (sp + (home + 4)) 4) ∙ ap (λ a. word x.mem a 4) (sym (add_assoc sp home 4)), got.1)
 
 loaded_same : (w : Width) (b : Bool) (m n : List ℕ) (a : ℕ) → AgreeFrom a m n → loaded m a w b ≡ loaded n a w b
 loaded_same w b m n a e = ap (widened b (bytes_of w)) (word_same (bytes_of w) m n a e)

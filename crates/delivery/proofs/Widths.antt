@@ -1,5 +1,5 @@
 -- Loaded values, byte by byte.
-use Rattle.std.proofs.Common.{◌≡◌, ℕ, zero, suc, ◌+◌, ◌-◌, ◌%◌, ◌^◌, ◌<◌, ◌≤◌, Bool, true, false, cond, ltb, List, get_or, ap, ◌∙◌, inl, inr, add_assoc, arith}
+use Rattle.std.proofs.Common.{◌≡◌, ℕ, zero, suc, ◌+◌, ◌-◌, ◌%◌, ◌^◌, ◌<◌, ◌≤◌, Bool, true, false, cond, ltb, List, get_or, refl, ap, ◌∙◌, inl, inr, add_assoc, arith}
 use native.Mathlib.Nat.{zero-div}
 use Rattle.std.proofs.lemmas.Bool.{cases_lt, lt-ltb, le-ltb}
 use Rattle.std.proofs.lemmas.Bool.Decides.{nat_tests}
@@ -35,6 +35,11 @@ signed_two v i l h = below_four (λ i. byte_of (widened true 2 v) i ≡ signed_b
 
 signed_whole : (v : ℕ) → widened true 4 v ≡ v
 signed_whole v = grind (arith, nat_tests)
+
+-- 4 bytes are the same by sign and with zeros
+pub whole_loaded : (b : Bool) (v : ℕ) → widened b 4 v ≡ v
+whole_loaded false v = refl
+whole_loaded true v = signed_whole v
 
 signed_below_one : (v : ℕ) → v < 256 → widened true 1 v < 4294967296
 signed_below_one v l = grind (arith, nat_tests)

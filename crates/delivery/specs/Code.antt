@@ -67,7 +67,7 @@ settle (Block o w) = Store scratch stack_pointer (offset o) (moved w) ∷ []
 
 -- register d gets piece k of a value in the home at offset h; register s has its low piece
 abbrev pub fill_further : Kind → Size → ℕ → ℕ → ℕ → ℕ → Instruction
-fill_further t w k d s h = cond (nat_lt (4 * k) (bytes w)) (Load d stack_pointer (offset (h + 4 * k)) Widths.Four false) (extend t d s)
+fill_further t w k d s h = cond (nat_lt (4 * k) (bytes w)) (Load d stack_pointer (offset (h + 4 * k)) Widths.Four (by_sign t)) (extend t d s)
 
 abbrev pub fill_rest : Kind → Size → List Piece → ℕ → ℕ → ℕ → List Instruction
 fill_rest t w [] k s h = []

@@ -68,12 +68,12 @@ pub(crate) fn fill_high(value: ValueType, d: u8, s: u8, home: u32) -> Instructio
     ensures loads_or_extends { result ≡ fill_further value.kind value.width 1 d s home }
 {
     match (value.width, value.kind) {
-        (Size::Eight, _) => Instruction::Load {
+        (Size::Eight, kind) => Instruction::Load {
             d,
             b: STACK_POINTER,
             i: offset(home + 4),
             width: Width::Four,
-            signed: false,
+            signed: by_sign(kind),
         },
         (_, Kind::Signed) => Instruction::Sign { d, s },
         _ => Instruction::Set { d, n: 0 },
