@@ -7,9 +7,9 @@ use Rattle.histories.specs.Laws.{HoldsWhatWasGranted, HoldsPlacesApart, WideEnou
 use Rattle.histories.proofs.Twins.{equal_answers}
 use Rattle.machine.specs.Machine.{Contents}
 use Rattle.delivery.specs.Delivering.{Sane, Sized}
-use Rattle.call.specs.Placing.{Sides, sides_of}
-use Rattle.call.specs.Calls.{first_of, fault_in, coding_fault, CameOut, RunBy, core_code}
-use Rattle.call.specs.Astray.{Setting, End, Moment, Placed, SidesAlike, Provided, Delivered, NothingGoesAstray, placement_in, moments}
+use Rattle.call.specs.Placing.{Sides, placement, placement_line, sides_of}
+use Rattle.call.specs.Calls.{first_of, fault_in, line_in, coding_fault, CameOut, RunBy, core_code}
+use Rattle.call.specs.Astray.{Setting, End, Moment, Placed, SidesAlike, Provided, Delivered, NothingGoesAstray, reopened_sides, placement_in, moments}
 use Rattle.call.specs.declared.ran.Ran.{Ran}
 use Rattle.call.proofs.Arrives.{codes_are_short, arrives}
 use Rattle.call.proofs.Firsts.{none_first, none_next}
@@ -18,6 +18,7 @@ use Rattle.call.proofs.Steps.{LawfulPiles, LawfulMoment, each_moment_is_lawful, 
 module _ (s : Setting) (e : End) (piles : LawfulPiles s) (sane : Sane s.world.contents) (sized : AllByRecursion Sized s.body)
     (same : e.sides ≡ sides_of (placement_in s))
     (fault : fault_in e.answer ≡ first_of (placement_in s).core_results.fault (coding_fault e.sides s.kept s.body (length s.world.caller) (length s.world.callee) (length s.world.contents.mem)))
+    (line : line_in e.answer ≡ placement_line (reopened_sides s) s.arguments s.results)
     (out : CameOut e.sides s.kept s.body s.budget s.world e.world e.answer) where
   -- what each moment's laws say, of all of them
   of_each : (F : Moment → Type 0) → ((m : Moment) → LawfulMoment m → F m) → AllByRecursion F (moments s e.sides)
@@ -62,8 +63,23 @@ module _ (s : Setting) (e : End) (piles : LawfulPiles s) (sane : Sane s.world.co
     equal_requests_for_arguments_get_equal_answers = equal_answers s.bench_arguments.profile s.core_arguments.profile;
     equal_requests_for_results_get_equal_answers = equal_answers s.bench_results.profile s.core_results.profile;
     refused_with_the_first_fault = fault;
+    refusal_of_a_pile_has_the_blamed_line = line;
     came_out_by_the_rules_of_code_and_machine = out;
     a_call_that_is_not_refused_is_placed = placed;
     a_budget_of_512_covers_both_codes = covered;
     no_argument_or_result_goes_astray = delivered;
   }
+
+-- the same of a call whose sides were these when it began to place
+pub nothing_goes_astray_from : (s : Setting) (e : End) → LawfulPiles s → Sane s.world.contents → AllByRecursion Sized s.body →
+    (began : Sides) → began ≡ reopened_sides s →
+    e.sides ≡ sides_of (placement began s.arguments s.results) →
+    fault_in e.answer ≡ first_of (placement began s.arguments s.results).core_results.fault (coding_fault e.sides s.kept s.body (length s.world.caller) (length s.world.callee) (length s.world.contents.mem)) →
+    line_in e.answer ≡ placement_line began s.arguments s.results →
+    CameOut e.sides s.kept s.body s.budget s.world e.world e.answer → NothingGoesAstray s e
+nothing_goes_astray_from s e piles sane sized began fresh same fault line out =
+    nothing_goes_astray s e piles sane sized
+    (same ∙ ap (λ (z : Sides). sides_of (placement z s.arguments s.results)) fresh)
+    (fault ∙ ap (λ (z : Sides). first_of (placement z s.arguments s.results).core_results.fault (coding_fault e.sides s.kept s.body (length s.world.caller) (length s.world.callee) (length s.world.contents.mem))) fresh)
+    (line ∙ ap (λ (z : Sides). placement_line z s.arguments s.results) fresh)
+    out

@@ -6,3 +6,4 @@ mod Accepts
 mod Fronts
 mod Arrives
 mod Astrays
+pub mod Ends

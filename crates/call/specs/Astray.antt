@@ -5,18 +5,19 @@ use Rattle.values.specs.Sizes.{bytes}
 use Rattle.place.specs.Holdings.{Holding}
 use Rattle.stage.specs.Books.{Profile}
 use Rattle.stage.specs.declared.Stage.{Ghosts}
-use Rattle.allocation.specs.States.{State, opened}
+use Rattle.allocation.specs.States.{State, state, opened}
 use Rattle.histories.specs.Histories.{History, history, played, grants_in}
 use Rattle.histories.specs.Laws.{HoldsWhatWasGranted, HoldsPlacesApart, WideEnough, AlignedAsRequested, PlacesAlways, Alike, EqualRequestsGetEqualAnswers}
 use Rattle.allocation.specs.declared.asked.Asked.{Asked}
+use Rattle.allocation.specs.declared.shared.Allocation.{Allocation}
 use Rattle.machine.specs.Machine.{Contents, reg, running}
 use Rattle.machine.specs.declared.Instruction.{Instruction}
 use Rattle.machine.specs.declared.Outcome.TheVariants as Outcomes
 use Rattle.machine.specs.declared.Side.TheVariants.{Caller}
 use Rattle.delivery.specs.Code.{home_bytes}
 use Rattle.delivery.specs.Delivering.{BodyRuns, Delivers}
-use Rattle.call.specs.Placing.{Placement, Sides, placement, sides_of}
-use Rattle.call.specs.Calls.{World, first_of, fault_in, coding_fault, CameOut}
+use Rattle.call.specs.Placing.{Placement, Sides, placement, placement_line, sides_of}
+use Rattle.call.specs.Calls.{World, first_of, fault_in, line_in, coding_fault, CameOut}
 use Rattle.call_faults.specs.declared.CallFault.{CallFault}
 use Rattle.call.specs.declared.ran.Ran.{Ran}
 use Rattle.call.specs.declared.sides.UsedPile.{UsedPile}
@@ -28,6 +29,14 @@ pub record Used : Type 0 where
 
 abbrev pub used_of : {P : Type 0} → Ghosts P → UsedPile P → Used
 used_of g u = record { profile = g.profile u.pile; past = history u.rounds.now u.since.now }
+
+-- a pile, and nothing before
+abbrev pub unused : Profile → Used
+unused p = record { profile = p; past = record { rounds = []; since = [] } }
+
+-- the pile of an allocation: a reopening brings its first book back, whatever came to it before
+abbrev pub reopened_of : {P S : Type 0} → Ghosts P → Allocation P S → Used
+reopened_of g a = unused (state g a).profile
 
 -- what a call starts from
 pub record Setting : Type 0 where
@@ -139,7 +148,13 @@ pub record NothingGoesAstray (s : Setting) (e : End) : Type 0 where
   -- the first fault of placing, of the caller's code, of the callee's code, or of the memory
   pub refused_with_the_first_fault :
       fault_in e.answer ≡ first_of (placement_in s).core_results.fault (coding_fault e.sides s.kept s.body (length s.world.caller) (length s.world.callee) (length s.world.contents.mem))
+  -- the line of the stage that refused, where one did
+  pub refusal_of_a_pile_has_the_blamed_line : line_in e.answer ≡ placement_line (reopened_sides s) s.arguments s.results
   pub came_out_by_the_rules_of_code_and_machine : CameOut e.sides s.kept s.body s.budget s.world e.world e.answer
   pub a_call_that_is_not_refused_is_placed : (r : Ran) → e.answer ≡ Ok r → Placed s e.sides
   pub a_budget_of_512_covers_both_codes : (r : Ran) → e.answer ≡ Ok r → r.caller_length + r.callee_length ≤ 512
   pub no_argument_or_result_goes_astray : (r : Ran) → e.answer ≡ Ok r → SidesAlike s → Provided s r → (p q : Contents) × Delivered s e r p q
+
+-- what a call leaves and answers follows from what it starts from
+abbrev pub OneEndForEachSetting : Type 0
+OneEndForEachSetting = (s : Setting) (e f : End) → NothingGoesAstray s e → NothingGoesAstray s f → e ≡ f

@@ -1,7 +1,7 @@
 -- A call from bench to core: why it is refused, and what it makes of lists, registers and memory.
 use Rattle.std.specs.Prelude.{◌≡◌, ℕ, cond, List, ◌++◌, length, drop, Some, None, Ok, Err, Option, Result, nat_lt}
 use Rattle.stage.specs.Faults.{Fault}
-use Rattle.allocation.specs.Faults.{placement_fault}
+use Rattle.allocation.specs.Faults.{placement_fault, cause_line}
 use Rattle.machine.specs.Machine.{Contents, running, runs, outcome_of}
 use Rattle.machine.specs.declared.Instruction.{Instruction}
 use Rattle.machine.specs.declared.Side.TheVariants.{Caller}
@@ -23,6 +23,16 @@ call_fault_of (Faults.Run MemoryTooLarge) = record { number = 51; position = 0 }
 abbrev pub fault_in : {X : Type 0} → Result X CallFault → Option Fault
 fault_in (Ok x) = None
 fault_in (Err f) = Some (call_fault_of f)
+
+-- the line of the stage that refused, where a pile did
+abbrev pub call_line_of : CallFault → Option ℕ
+call_line_of (Faults.Placement f) = cause_line f.cause
+call_line_of (Faults.Code f) = None
+call_line_of (Faults.Run f) = None
+
+abbrev pub line_in : {X : Type 0} → Result X CallFault → Option ℕ
+line_in (Ok x) = None
+line_in (Err f) = call_line_of f
 
 -- a fault, or else the next one
 abbrev pub first_of : Option Fault → Option Fault → Option Fault

@@ -1,12 +1,12 @@
 -- Placing the types of a signature on both sides, up to the first that is refused.
-use Rattle.std.specs.Prelude.{◌≡◌, cond, List, [], ◌∷◌, is_ok, Some, None, Ok, Err, Option, Result}
+use Rattle.std.specs.Prelude.{◌≡◌, ℕ, cond, List, [], ◌∷◌, is_ok, Some, None, Ok, Err, Option, Result}
 use Rattle.stage.specs.Faults.{Fault}
 use Rattle.stage.specs.declared.Stage.{Ghosts}
-use Rattle.allocation.specs.Faults.{Answer, placement_fault}
+use Rattle.allocation.specs.Faults.{Answer, placement_fault, cause_line}
 use Rattle.allocation.specs.States.{State, state}
 use Rattle.allocation.specs.declared.faults.PlacementFault.{PlacementFault}
 use Rattle.allocation.specs.declared.shared.Allocation.{Allocation}
-use Rattle.allocation.specs.Rules.{place_answer, placed}
+use Rattle.allocation.specs.Rules.{place_answer, placed, blamed_line}
 use Rattle.histories.specs.Histories.{placed_all}
 use Rattle.allocation.specs.declared.asked.Asked.{Asked}
 use Rattle.call.specs.declared.sides.Side.{Side}
@@ -34,6 +34,21 @@ first_refused s (q ∷ qs) = fault_else (place_answer s q) (first_refused (place
 abbrev pub placing_fault : {X : Type 0} → Result X PlacementFault → Option Fault
 placing_fault (Ok x) = None
 placing_fault (Err f) = Some (placement_fault f)
+
+-- the line of an answer of place, or else what comes next
+abbrev pub line_else : Answer → Option ℕ → Option ℕ → Option ℕ
+line_else (Ok p) own next = next
+line_else (Err f) own next = own
+
+-- the line of the stage that refused the first that is refused, where its pile did
+abbrev pub first_blamed : State → List Asked → Option ℕ
+first_blamed s [] = None
+first_blamed s (q ∷ qs) = line_else (place_answer s q) (blamed_line s q) (first_blamed (placed s q) qs)
+
+-- the line of an answer that is a refusal of the pile
+abbrev pub placing_line : {X : Type 0} → Result X PlacementFault → Option ℕ
+placing_line (Ok x) = None
+placing_line (Err f) = cause_line f.cause
 
 -- what an allocation was asked, what it became, and the first fault so far
 pub record Step : Type 0 where
@@ -68,6 +83,19 @@ placement s arguments results =
     let third = placing second.fault s.core_arguments arguments in
     let fourth = placing third.fault s.core_results results in
     record { bench_arguments = first; bench_results = second; core_arguments = third; core_results = fourth }
+
+-- a line where there was a fault, or else the next one
+abbrev pub line_of_first : Option Fault → Option ℕ → Option ℕ → Option ℕ
+line_of_first (Some f) line next = line
+line_of_first None line next = next
+
+-- the line of the stage that refused the first type that is refused, where a pile did
+abbrev pub placement_line : Sides → List Asked → List Asked → Option ℕ
+placement_line s arguments results =
+    line_of_first (first_refused s.bench_arguments arguments) (first_blamed s.bench_arguments arguments)
+    (line_of_first (first_refused s.bench_results results) (first_blamed s.bench_results results)
+    (line_of_first (first_refused s.core_arguments arguments) (first_blamed s.core_arguments arguments)
+    (first_blamed s.core_results results)))
 
 -- the allocations after a placement
 abbrev pub sides_of : Placement → Sides

@@ -1,11 +1,11 @@
 // The call.
 ghost use Rattle.std.specs.Prelude.{◌≡◌, length};
 ghost use Rattle.allocation.specs.States.{state};
-ghost use Rattle.call.specs.Placing.{placement, placing_fault, sides_of, both_sides};
-ghost use Rattle.call.specs.Astray.{used_of, NothingGoesAstray};
-ghost use Rattle.call.specs.Calls.{fault_in, first_of, coding_fault, world_of, CameOut};
+ghost use Rattle.call.specs.Placing.{placement, placement_line, placing_fault, placing_line, sides_of, both_sides};
+ghost use Rattle.call.specs.Astray.{used_of, reopened_of, NothingGoesAstray, OneEndForEachSetting};
+ghost use Rattle.call.specs.Calls.{fault_in, line_in, first_of, coding_fault, world_of, CameOut};
 
-use crate::placing::{open_side, place_all};
+use crate::placing::{open_side, place_all, reopen_side};
 use crate::ran::Ran;
 use crate::ranges::{know_bytes, read_numbers};
 use crate::running::code_and_run;
@@ -48,6 +48,7 @@ fn run_placed<A: Stage, B: Stage, C: Stage, D: Stage>(
     limit: usize,
 ) -> Result<Ran, CallFault>
     ensures refused_with_the_first_fault { fault_in result ≡ first_of (placing_fault placed) (coding_fault (both_sides A.Stage B.Stage C.Stage D.Stage bench.now core.now) routine.entry.kept.bits routine.entry.body.now (length caller.old) (length callee.old) (length memory.old)) }
+    ensures pile_refusal_has_the_blamed_line { line_in result ≡ placing_line placed }
     ensures comes_out_by_the_rules { CameOut (both_sides A.Stage B.Stage C.Stage D.Stage bench.now core.now) routine.entry.kept.bits routine.entry.body.now limit (world_of caller.old callee.old registers.old memory.old) (world_of caller.new callee.new registers.new memory.new) result }
 {
     placed?;
@@ -69,6 +70,7 @@ fn place_and_run<A: Stage, B: Stage, C: Stage, D: Stage>(
 ) -> Called<A, B, C, D>
     ensures sides_are_placed_by_the_rules { both_sides A.Stage B.Stage C.Stage D.Stage result.bench result.core ≡ sides_of (placement (both_sides A.Stage B.Stage C.Stage D.Stage bench core) routine.entry.arguments.now routine.entry.results.now) }
     ensures refused_with_the_first_fault { fault_in result.answer ≡ first_of (placement (both_sides A.Stage B.Stage C.Stage D.Stage bench core) routine.entry.arguments.now routine.entry.results.now).core_results.fault (coding_fault (both_sides A.Stage B.Stage C.Stage D.Stage result.bench result.core) routine.entry.kept.bits routine.entry.body.now (length caller.old) (length callee.old) (length memory.old)) }
+    ensures pile_refusal_has_the_blamed_line { line_in result.answer ≡ placement_line (both_sides A.Stage B.Stage C.Stage D.Stage bench core) routine.entry.arguments.now routine.entry.results.now }
     ensures comes_out_by_the_rules { CameOut (both_sides A.Stage B.Stage C.Stage D.Stage result.bench result.core) routine.entry.kept.bits routine.entry.body.now limit (world_of caller.old callee.old registers.old memory.old) (world_of caller.new callee.new registers.new memory.new) result.answer }
 {
     let placed = place_all(&mut bench, &mut core, routine);
@@ -104,6 +106,31 @@ pub fn call<A: Stage, B: Stage, C: Stage, D: Stage>(
     read_numbers(routine.body);
     let bench = open_side(bench);
     let core = open_side(core);
+    place_and_run(
+        bench, core, routine, caller, callee, registers, memory, budget,
+    )
+}
+
+// One call more over allocations that are frozen, and freezes them again: whatever came to them before, a reopening
+// brings their first books back, so it promises as `call` does where nothing came before. What is lent is lent one by one
+// as by `call`.
+pub fn call_again<A: Stage, B: Stage, C: Stage, D: Stage>(
+    bench: Side<Frozen<A>, Frozen<B>>,
+    core: Side<Frozen<C>, Frozen<D>>,
+    routine: Routine,
+    caller: &mut [Instruction],
+    callee: &mut [Instruction],
+    registers: &mut [u32; 32],
+    memory: &mut [u8],
+    budget: usize,
+) -> Called<A, B, C, D>
+    ensures nothing_goes_astray { NothingGoesAstray (record { bench_arguments = reopened_of A.Stage bench.arguments; bench_results = reopened_of B.Stage bench.results; core_arguments = reopened_of C.Stage core.arguments; core_results = reopened_of D.Stage core.results; arguments = routine.entry.arguments.now; results = routine.entry.results.now; kept = routine.entry.kept.bits; body = routine.entry.body.now; world = world_of caller.old callee.old registers.old memory.old; budget = budget }) (record { sides = both_sides A.Stage B.Stage C.Stage D.Stage result.bench result.core; world = world_of caller.new callee.new registers.new memory.new; answer = result.answer }) }
+    ensures what_it_leaves_and_answers_follows_from_what_it_starts_from { OneEndForEachSetting }
+{
+    know_bytes(memory);
+    read_numbers(routine.body);
+    let bench = reopen_side(bench);
+    let core = reopen_side(core);
     place_and_run(
         bench, core, routine, caller, callee, registers, memory, budget,
     )

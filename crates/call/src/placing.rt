@@ -1,11 +1,12 @@
 // Placing a signature on both sides.
 ghost use Rattle.std.specs.Prelude.{◌≡◌};
 ghost use Rattle.allocation.specs.States.{state, opened};
-ghost use Rattle.call.specs.Placing.{placed_until, first_refused, placing_fault, placement, both_sides, ComesOf};
+ghost use Rattle.call.specs.Placing.{placed_until, first_refused, first_blamed, placing_fault, placing_line, placement, placement_line, both_sides, ComesOf};
 
 use crate::sides::{Routine, Side, UsedPile};
 use allocation::asked::Asked;
 use allocation::faults::PlacementFault;
+use allocation::frozen::Frozen;
 use allocation::opened::Open;
 use histories::plays::play;
 use stage::Stage;
@@ -30,10 +31,24 @@ pub(crate) fn open_side<P: Stage, Q: Stage>(
     }
 }
 
+// A side's allocations, reopened.
+pub(crate) fn reopen_side<P: Stage, Q: Stage>(
+    side: Side<Frozen<P>, Frozen<Q>>,
+) -> Side<Open<P>, Open<Q>>
+    ensures arguments_newly_opened { state P.Stage result.arguments ≡ opened (state P.Stage side.arguments).profile }
+    ensures results_newly_opened { state Q.Stage result.results ≡ opened (state Q.Stage side.results).profile }
+{
+    Side {
+        arguments: side.arguments.reopen(),
+        results: side.results.reopen(),
+    }
+}
+
 // Places each in turn, up to the first that is refused.
 fn place_list<P: Stage>(allocation: &mut Open<P>, list: &[Asked]) -> Result<(), PlacementFault>
     ensures asked_up_to_the_first_refused { state P.Stage allocation.new ≡ placed_until (state P.Stage allocation.old) list.now }
     ensures fault_of_the_first_refused { placing_fault result ≡ first_refused (state P.Stage allocation.old) list.now }
+    ensures pile_refusal_has_the_blamed_line { placing_line result ≡ first_blamed (state P.Stage allocation.old) list.now }
 {
     for asked in list {
         allocation.place(*asked)?;
@@ -48,6 +63,7 @@ pub(crate) fn place_all<A: Stage, B: Stage, C: Stage, D: Stage>(
     routine: Routine,
 ) -> Result<(), PlacementFault>
     ensures bench_then_core_up_to_the_first_refused { ComesOf (placement (both_sides A.Stage B.Stage C.Stage D.Stage bench.old core.old) routine.entry.arguments.now routine.entry.results.now) (both_sides A.Stage B.Stage C.Stage D.Stage bench.new core.new) (placing_fault result) }
+    ensures pile_refusal_has_the_blamed_line { placing_line result ≡ placement_line (both_sides A.Stage B.Stage C.Stage D.Stage bench.old core.old) routine.entry.arguments.now routine.entry.results.now }
 {
     place_list(&mut bench.arguments, routine.arguments)?;
     place_list(&mut bench.results, routine.results)?;

@@ -1,6 +1,6 @@
 // Coding both sides of a call, and running it.
-ghost use Rattle.std.specs.Prelude.{◌≡◌, length};
-ghost use Rattle.call.specs.Calls.{fault_in, coding_fault, world_of, CameOut};
+ghost use Rattle.std.specs.Prelude.{◌≡◌, length, None};
+ghost use Rattle.call.specs.Calls.{fault_in, line_in, coding_fault, world_of, CameOut};
 ghost use Rattle.call.specs.Placing.{both_sides};
 
 use crate::ran::Ran;
@@ -28,6 +28,7 @@ fn check_call<A: Stage, B: Stage, C: Stage, D: Stage>(
     room: Room,
 ) -> Result<(), CallFault>
     ensures first_fault_of_caller_callee_or_memory { fault_in result ≡ coding_fault (both_sides A.Stage B.Stage C.Stage D.Stage bench.now core.now) routine.entry.kept.bits routine.entry.body.now room.caller room.callee room.memory }
+    ensures no_pile_refuses { line_in result ≡ None }
 {
     let kept = routine.kept;
     caller_size(&bench.arguments, &bench.results, kept, room.caller)?;
@@ -56,6 +57,7 @@ pub(crate) fn code_and_run<A: Stage, B: Stage, C: Stage, D: Stage>(
     budget: usize,
 ) -> Result<Ran, CallFault>
     ensures first_fault_of_caller_callee_or_memory { fault_in result ≡ coding_fault (both_sides A.Stage B.Stage C.Stage D.Stage bench.now core.now) routine.entry.kept.bits routine.entry.body.now (length caller.old) (length callee.old) (length memory.old) }
+    ensures no_pile_refuses { line_in result ≡ None }
     ensures comes_out_by_the_rules { CameOut (both_sides A.Stage B.Stage C.Stage D.Stage bench.now core.now) routine.entry.kept.bits routine.entry.body.now budget (world_of caller.old callee.old registers.old memory.old) (world_of caller.new callee.new registers.new memory.new) result }
 {
     let room = Room {
