@@ -30,7 +30,7 @@ pub struct Adjust<S> {
 }
 
 impl Change {
-    fn apply(self, request: Request) -> Request
+    pub fn apply(self, request: Request) -> Request
         ensures the_changed_request { result ≡ changed self request }
     {
         match self {
