@@ -1,0 +1,5 @@
+pub mod Cuts
+pub mod Digits
+pub mod Gathering
+pub mod Joins
+pub mod Options

@@ -1,0 +1,15 @@
+-- Lists of words.
+use Rattle.std.specs.Prelude.{ℕ, cond, List, [], ◌∷◌, Option, Some, None, length, nat_le, option_map}
+use Rattle.std.specs.Option.{option_and_then}
+use Rattle.arrayvec.specs.ArrayVec.{ArrayVec}
+
+-- what each word of a list stands for, or none where one stands for nothing
+abbrev pub all_of : {W X : Type 0} → (W → Option X) → List W → Option (List X)
+all_of f [] = Some []
+all_of f (w ∷ ws) = option_and_then (λ x. option_map (λ xs. x ∷ xs) (all_of f ws)) (f w)
+
+abbrev pub all_of_at_most : {W X : Type 0} → ℕ → (W → Option X) → List W → Option (List X)
+all_of_at_most n f ws = cond (nat_le (length ws) n) (all_of f ws) None
+
+abbrev pub listed : {X : Type 0} → List X → ArrayVec X
+listed xs = record { items = xs }
