@@ -4,4 +4,4 @@
 pub mod bank;
 pub mod bits;
 pub mod count;
-mod register_list;
+pub mod register_list;

@@ -33,7 +33,7 @@ impl RegisterList {
 }
 
 // The set of a list of distinct registers of r0 to r27; none for another list.
-fn gather(list: &[u8]) -> Option<RegisterSet>
+pub fn gather(list: &[u8]) -> Option<RegisterSet>
     ensures its_set_or_none { MatchOption result (distinct list.now ≡ false) (λ s. (distinct list.now ≡ true) × (s.bits ≡ set_of list.now)) }
 {
     let mut set = RegisterSet::EMPTY;
