@@ -1,0 +1,9 @@
+pub mod Planning
+pub mod Naming
+pub mod Taking
+pub mod Counting
+pub mod MoreRead
+pub mod WithStage
+pub mod ReadLine
+pub mod Ending
+pub mod Progress

@@ -1,0 +1,12 @@
+use Rattle.std.proofs.Common.{sym, ◌∙◌, arith}
+use Rattle.std.proofs.lemmas.Grind.{common_steps}
+use Rattle.description.proofs.MoreRead.{with_results, no_such_results}
+use Rattle.description.proofs.reading.Reading.set_results.Goals as goal
+
+pub returns-in_default : goal.returns-in_default
+returns-in_default c =
+    record { checked_by_the_rules = λ before h. (no_such_results before c.args.number c.args.self.now h (grind (arith, common_steps)) (sym c.is_some.ensures ∙ c.if-is_some.false) (c.in_default.ensures.a_free_stage_or_none _ _ h.stages), c.line-line.ensures.one_behind_the_lines_read before h) }
+
+pub returns : goal.returns
+returns c =
+    record { checked_by_the_rules = λ before h. with_results before c.args.number c.args.self.now _ _ h (grind (arith, common_steps)) (sym c.is_some.ensures ∙ c.if-is_some.false) (c.in-Some.ensures.a_free_stage_or_none _ _ h.stages) }

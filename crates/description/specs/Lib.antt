@@ -1,0 +1,5 @@
+pub mod Profiles
+pub mod Plans
+pub mod Stages
+pub mod Readings
+pub mod Describing

@@ -1,0 +1,77 @@
+// The stages that were read, until a later line names them.
+ghost use Rattle.std.specs.Prelude.{◌≡◌, ◌<◌, ◌≤◌, [], ◌∷◌, ◌++◌, ℕ, List, true, false, length, MatchOption};
+ghost use Rattle.stage.specs.Books.{Profile};
+ghost use Rattle.described.specs.Piles.{AtStart};
+ghost use Rattle.pages.specs.Rules.{is_free, are_free, all_used};
+ghost use Rattle.description.specs.Profiles.{stage_at};
+ghost use Rattle.description.specs.Stages.{HasStages, AreTaken};
+
+use arrayvec::ArrayVec;
+use described::pile::Pile;
+
+// By their lines, in order; none where a line has named the stage.
+#[derive(Drop)]
+pub(crate) struct Stages {
+    free: ArrayVec<Option<Pile>, 24>,
+}
+
+impl Stages {
+    // The stage of a line, if no line has named it.
+    pub(crate) fn take(&mut self, number: u8) -> Option<Pile>
+        ensures a_free_stage_or_none { (stages : List Profile) (named : List ℕ) → HasStages stages named self.old → MatchOption result (is_free (length stages) named number ≡ false) (λ pile. (is_free (length stages) named number ≡ true) × AtStart (stage_at stages number) pile × HasStages stages (named ++ number ∷ []) self.new) }
+    {
+        let index = usize::from(number).checked_sub(1)?;
+        self.free.get_mut(index)?.take()
+    }
+
+    // Those that a line names, two at most, one after the other.
+    pub(crate) fn take_all(&mut self, below: &[u8]) -> Option<(Option<Pile>, Option<Pile>)>
+        requires two_at_most { length below.now ≤ 2 }
+        ensures free_stages_or_none { (stages : List Profile) (named : List ℕ) → HasStages stages named self.old → MatchOption result (are_free (length stages) named below.now ≡ false) (λ p. (are_free (length stages) named below.now ≡ true) × AreTaken stages below.now p.0 p.1 × HasStages stages (named ++ below.now) self.new) }
+    {
+        match below {
+            [] => Some((None, None)),
+            [first] => Some((Some(self.take(*first)?), None)),
+            [first, second] => {
+                let first = self.take(*first)?;
+                let second = self.take(*second)?;
+                Some((Some(first), Some(second)))
+            }
+            _ => None,
+        }
+    }
+
+    pub(crate) fn new() -> Stages
+        ensures no_stage_yet { HasStages [] [] result }
+    {
+        Stages {
+            free: ArrayVec::new(),
+        }
+    }
+
+    pub(crate) fn count(&self) -> usize
+        ensures as_many_as_stages { (stages : List Profile) (named : List ℕ) → HasStages stages named self.now → result ≡ length stages }
+        ensures at_most_24 { result ≤ 24 }
+    {
+        self.free.len()
+    }
+
+    // One stage more, if there is room for it.
+    pub(crate) fn push(&mut self, pile: Pile) -> Option<()>
+        ensures a_25th_is_refused { (stages : List Profile) (named : List ℕ) (p : Profile) → HasStages stages named self.old → AtStart p pile → MatchOption result (24 ≤ length stages) (λ _. (length stages < 24) × HasStages (stages ++ p ∷ []) named self.new) }
+    {
+        self.free.try_push(Some(pile)).ok()
+    }
+
+    // Whether each stage was named.
+    pub(crate) fn all_named(&self) -> bool
+        ensures whether_each_was_named { (stages : List Profile) (named : List ℕ) → HasStages stages named self.now → result ≡ all_used (length stages) named }
+    {
+        for slot in self.free.as_slice() {
+            if slot.is_some() {
+                return false;
+            }
+        }
+        true
+    }
+}
