@@ -1,0 +1,6 @@
+pub mod Checking
+pub mod Letters
+pub mod Lists
+pub mod Typing
+pub mod Words
+pub mod Written

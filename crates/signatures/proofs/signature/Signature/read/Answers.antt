@@ -1,0 +1,8 @@
+use Rattle.signatures.proofs.Written.{faultless_lines_are_signatures, lines_tell_signatures_apart}
+use Rattle.signatures.proofs.signature.Signature.read.Goals as goal
+
+pub returns-clause-faultless_lines_are_those_of_proper_signatures : goal.returns-clause-faultless_lines_are_those_of_proper_signatures
+returns-clause-faultless_lines_are_those_of_proper_signatures c = faultless_lines_are_signatures
+
+pub returns-clause-a_line_is_written_by_one_proper_signature : goal.returns-clause-a_line_is_written_by_one_proper_signature
+returns-clause-a_line_is_written_by_one_proper_signature c = lines_tell_signatures_apart
