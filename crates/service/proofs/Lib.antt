@@ -1,0 +1,4 @@
+mod Profiles
+mod Came
+mod Twins
+mod Parts
