@@ -1,4 +1,5 @@
 // One call from bench to core: where its values travel, both codes, and what came of it.
+use crate::piles::wide;
 use crate::shown::{show_bytes, show_code, show_places};
 use adjust::Adjust;
 use allocation::asked::Asked;
@@ -6,13 +7,11 @@ use allocation::frozen::Frozen;
 use allocation::held::Held;
 use anyhow::anyhow;
 use banks::bits::Bits;
-use blocks::up::Up;
 use call::calls::call;
 use call::ran::Ran;
 use call::sides::{Routine, Side, UsedPile};
 use machine::{Instruction, Width};
 use place::registers::RegisterSet;
-use sides::over::Over;
 use stage::{ParameterFault, Stage};
 use values::kinds::Kind;
 
@@ -45,12 +44,6 @@ fn sum() -> [Instruction; 8] {
         add,
         answer,
     ]
-}
-
-// Every argument at least 4 bytes wide, in four registers first and then in the block. The other program has a line like
-// this too; a crate for it would not be plainer.
-fn arguments() -> Result<Adjust<Over<Bits, Up>>, ParameterFault> {
-    Adjust::widen(4, Over::new(Bits::new(&[0, 1, 2, 3])?, Up::new(8)?))
 }
 
 fn results() -> Result<Adjust<Bits>, ParameterFault> {
@@ -158,11 +151,11 @@ pub(crate) fn show_crossing(rt: &HostRuntime) -> anyhow::Result<()> {
     let once: [&[Asked]; 1] = [&taken];
     let twice: [&[Asked]; 2] = [&taken, &[]];
     let bench = Side {
-        arguments: used(arguments()?, &twice, &taken),
+        arguments: used(wide()?, &twice, &taken),
         results: used(results()?, &[], &[]),
     };
     let core = Side {
-        arguments: used(arguments()?, &[], &word),
+        arguments: used(wide()?, &[], &word),
         results: used(results()?, &once, &taken),
     };
     let routine = Routine {
