@@ -115,15 +115,26 @@ fn lines_at_fault_are_11_to_13(rt: HostRuntime) -> Result<(), Fail> {
     Ok(())
 }
 
+// Each description's first signature is refused, with an empty body.
+fn refuses_each(
+    rt: &impl Abort,
+    heap: Global,
+    table: &[(&str, &str, u8, usize, &str)],
+) -> Result<(), Fail> {
+    for (description, list, number, position, blamed) in table {
+        let fault = (*number, *position);
+        let lent = Lent::new(heap)?;
+        refuses(rt, heap, *description, *list, 1, &[], lent, fault, *blamed)?;
+    }
+    Ok(())
+}
+
 // Not reached by a signature: 21, since each of its words is a type and asks for its own alignment, and 22, since it has
 // at most sixteen arguments.
 #[test]
-fn piles_that_refuse_are_23_and_24_and_places_without_code_31_and_32(
-    rt: HostRuntime,
-) -> Result<(), Fail> {
-    let heap = rt.alloc();
+fn piles_that_are_not_sound_are_23(rt: HostRuntime) -> Result<(), Fail> {
+    // The two sides of an over have a register in common.
     let table = [
-        // The two sides of an over have a register in common.
         (
             "count r0 r1\ncount r1 r2\nover 1 2\ncount r3\nargs 3\nresults 4\nkeep\n",
             "f u4 : u4\n",
@@ -138,6 +149,13 @@ fn piles_that_refuse_are_23_and_24_and_places_without_code_31_and_32(
             0,
             "",
         ),
+    ];
+    refuses_each(&rt, rt.alloc(), &table)
+}
+
+#[test]
+fn piles_that_refuse_are_24(rt: HostRuntime) -> Result<(), Fail> {
+    let table = [
         (WORDS, "f u4 u4 :\n", 24, 1, "count r0"),
         (WORDS, "f u4 : u4 u4\n", 24, 1, "count r1"),
         (WORDS, "f u4 u4 : u4 u4\n", 24, 1, "count r0"),
@@ -157,6 +175,13 @@ fn piles_that_refuse_are_23_and_24_and_places_without_code_31_and_32(
             0,
             "up 4",
         ),
+    ];
+    refuses_each(&rt, rt.alloc(), &table)
+}
+
+#[test]
+fn places_without_code_are_31_and_32(rt: HostRuntime) -> Result<(), Fail> {
+    let table = [
         // A kept register in either pile's set, whether or not it is given.
         (
             "count r0\ncount r1\nargs 1\nresults 2\nkeep r9 r0\n",
@@ -188,28 +213,28 @@ fn piles_that_refuse_are_23_and_24_and_places_without_code_31_and_32(
             "",
         ),
     ];
-    for (description, list, number, position, blamed) in table {
-        refuses(
-            &rt,
-            heap,
-            description,
-            list,
-            1,
-            &[],
-            Lent::new(heap)?,
-            (number, position),
-            blamed,
-        )?;
-    }
-    Ok(())
+    refuses_each(&rt, rt.alloc(), &table)
 }
 
-// By `WORDS` the caller's code for `f u4 : u4` has 6 records, and the callee's 5 around the body: two homes, from r31 on.
+const SET: Instruction = Instruction::Set { d: 9, n: 1 };
+
+const LINK: Instruction = Instruction::Set { d: 30, n: 0 };
+
+// With this body, and so many records and bytes, the call by `WORDS` is refused. The caller's code has 6 records, and the
+// callee's 5 around the body: two homes, from r31 on.
+fn refuses_body(
+    rt: &impl Abort,
+    heap: Global,
+    body: &[Instruction],
+    (caller, callee, memory): (usize, usize, usize),
+    fault: (u8, usize),
+) -> Result<(), Fail> {
+    let lent = Lent::of(heap, caller, callee, memory)?;
+    refuses(rt, heap, WORDS, "f u4 : u4\n", 1, body, lent, fault, "")
+}
+
 #[test]
-fn bodies_are_33_and_short_lists_34_and_large_memories_51(rt: HostRuntime) -> Result<(), Fail> {
-    let heap = rt.alloc();
-    let set = Instruction::Set { d: 9, n: 1 };
-    let link = Instruction::Set { d: 30, n: 0 };
+fn bodies_at_fault_are_33(rt: HostRuntime) -> Result<(), Fail> {
     let past_homes = Instruction::Store {
         s: 9,
         b: 31,
@@ -223,35 +248,35 @@ fn bodies_are_33_and_short_lists_34_and_large_memories_51(rt: HostRuntime) -> Re
         width: Width::One,
         signed: false,
     };
-    let endless = [set; 257];
-    let table: [(&[Instruction], usize, usize, usize, u8, usize); 13] = [
-        (&[link], 24, 24, 192, 33, 0),
-        (&[set, set, link, link], 24, 24, 192, 33, 2),
-        (&[set, past_homes], 24, 24, 192, 33, 1),
-        (&[other_base], 24, 24, 192, 33, 0),
-        (&[set, Instruction::Ret], 24, 24, 192, 33, 1),
-        (&endless, 24, 24, 192, 33, 256),
-        (&[], 5, 24, 192, 34, 0),
-        (&[], 24, 4, 192, 34, 0),
-        (&[set, set], 24, 6, 192, 34, 0),
-        // The caller's code comes before the callee's.
-        (&[set, link], 5, 24, 65_537, 34, 0),
-        (&[set, link], 6, 4, 65_537, 33, 1),
-        (&[set], 6, 5, 65_537, 34, 0),
-        (&[set], 6, 6, 65_537, 51, 0),
+    let endless = [SET; 257];
+    let table: [(&[Instruction], usize); 6] = [
+        (&[LINK], 0),
+        (&[SET, SET, LINK, LINK], 2),
+        (&[SET, past_homes], 1),
+        (&[other_base], 0),
+        (&[SET, Instruction::Ret], 1),
+        (&endless, 256),
     ];
-    for (body, caller, callee, memory, number, position) in table {
-        refuses(
-            &rt,
-            heap,
-            WORDS,
-            "f u4 : u4\n",
-            1,
-            body,
-            Lent::of(heap, caller, callee, memory)?,
-            (number, position),
-            "",
-        )?;
+    for (body, index) in table {
+        refuses_body(&rt, rt.alloc(), body, (24, 24, 192), (33, index))?;
+    }
+    Ok(())
+}
+
+#[test]
+fn short_lists_are_34_and_large_memories_51(rt: HostRuntime) -> Result<(), Fail> {
+    let table: [(&[Instruction], (usize, usize, usize), (u8, usize)); 7] = [
+        (&[], (5, 24, 192), (34, 0)),
+        (&[], (24, 4, 192), (34, 0)),
+        (&[SET, SET], (24, 6, 192), (34, 0)),
+        // The caller's code comes before the callee's.
+        (&[SET, LINK], (5, 24, 65_537), (34, 0)),
+        (&[SET, LINK], (6, 4, 65_537), (33, 1)),
+        (&[SET], (6, 5, 65_537), (34, 0)),
+        (&[SET], (6, 6, 65_537), (51, 0)),
+    ];
+    for (body, room, fault) in table {
+        refuses_body(&rt, rt.alloc(), body, room, fault)?;
     }
     Ok(())
 }

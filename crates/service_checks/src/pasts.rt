@@ -53,26 +53,26 @@ fn after(
     Ok(service)
 }
 
+// A service with calls behind it that ended, and others that were refused.
+fn long_used(rt: &impl Abort, heap: Global) -> Result<Service<Pile>, Fail> {
+    let calls = [
+        (1, true),
+        (4, false),
+        (5, false),
+        (6, false),
+        (2, true),
+        (1, true),
+        (0, false),
+    ];
+    after(rt, heap, read(CLOSING.as_bytes(), heap)?, &calls)
+}
+
 // Of h, u4 has r0, the other arguments have 16 bytes of block, and the result has r2; four homes and r9 take 36 bytes. The
 // caller's code has 12 records, the callee's 15.
 #[test]
 fn services_with_unlike_pasts_answer_alike(rt: HostRuntime) -> Result<(), Fail> {
     let heap = rt.alloc();
-    let used = read(CLOSING.as_bytes(), heap)?;
-    let mut used = after(
-        &rt,
-        heap,
-        used,
-        &[
-            (1, true),
-            (4, false),
-            (5, false),
-            (6, false),
-            (2, true),
-            (1, true),
-            (0, false),
-        ],
-    )?;
+    let mut used = long_used(&rt, heap)?;
     let mut fresh = read(CLOSING.as_bytes(), heap)?;
     let ran = Ran {
         caller_length: 12,
