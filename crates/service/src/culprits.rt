@@ -11,16 +11,10 @@ use texts::parts::Parts;
 fn line_in(text: &[u8], line: u32) -> &[u8]
     ensures the_line_or_nothing { result.now ≡ line_in text.now line }
 {
-    let Some(before) = line.checked_sub(1) else {
-        return &[];
-    };
-    let mut lines = Parts::lines(text);
-    for _ in 0..before {
-        let Some(_earlier) = lines.next_part() else {
-            return &[];
-        };
+    match line.checked_sub(1) {
+        Some(before) => Parts::lines(text).nth_part(before).unwrap_or(&[]),
+        None => &[],
     }
-    lines.next_part().unwrap_or(&[])
 }
 
 // The number of the line that a fault blames; 0 where it blames none.

@@ -1,6 +1,5 @@
 pub mod Checking
 pub mod Letters
-pub mod Lists
 pub mod Typing
 pub mod Words
 pub mod Written

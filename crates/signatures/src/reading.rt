@@ -25,12 +25,8 @@ const COLON: &[u8] = b":";
 fn line_at(list: &[u8], line: u32) -> Option<&[u8]>
     ensures the_line_or_none { MatchOption result (line_at list.now line ≡ None) (λ l. line_at list.now line ≡ Some l.now) }
 {
-    let before = line.checked_sub(1)?;
     let mut lines = Parts::lines(list);
-    for _line in 0..before {
-        lines.next_part()?;
-    }
-    let found = lines.next_part()?;
+    let found = lines.nth_part(line.checked_sub(1)?)?;
     lines.next_part()?;
     Some(found)
 }

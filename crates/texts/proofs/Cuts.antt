@@ -1,5 +1,6 @@
 -- Where a text is cut first.
-use Rattle.std.proofs.Common.{◌≡◌, ◌≢◌, Bool, inl, inr, ℕ, zero, suc, ◌+◌, ◌-◌, ◌<◌, ◌≤◌, true, false, List, [], ◌∷◌, length, take, drop, ap, refl, ◌∙◌, arith, add-one}
+use Rattle.std.proofs.Common.{◌≡◌, ◌≢◌, Bool, inl, inr, ℕ, zero, suc, ◌+◌, ◌-◌, ◌<◌, ◌≤◌, true, false, List, [], ◌∷◌, length, take, drop, ap, refl, sym, ◌∙◌, drop-drop, arith, add-one}
+use Rattle.std.proofs.Math.Seq.{drop-nil}
 use Rattle.std.proofs.lemmas.Bool.{cases_Bool}
 use Rattle.std.proofs.lemmas.List.{take_rest}
 use Rattle.std.proofs.lemmas.List.Splits.{slice_split-cons_yes, slice_split-cons_no}
@@ -23,3 +24,9 @@ cut_at c xs i l h n = rw (take_rest xs (i + 1), add-one) (cut c xs i l h (λ k m
 pub uncut : (c : ℕ) (xs : List ℕ) → ((k : ℕ) → 0 ≤ k → k < length xs → (slice_index xs k == c) ≢ true) → parts c xs ≡ xs ∷ []
 uncut c [] n = refl
 uncut c (x ∷ xs) n = slice_split-cons_no (λ b. b == c) x xs (no _ (n 0 (omega arith) (omega arith))) ∙ ap (onto_first x) (uncut c xs (λ k l m. n (suc k) (omega arith) (omega arith)))
+
+-- where nothing is left behind so many, nothing is behind more
+pub none_behind : {X : Type 0} (k n : ℕ) (xs : List X) → drop k xs ≡ [] → k ≤ n → drop n xs ≡ []
+none_behind k n xs e l =
+    let behind : n ≡ k + (n - k) = omega arith in
+    ap (λ m. drop m xs) behind ∙ sym (drop-drop (n - k) k xs) ∙ ap (drop (n - k)) e ∙ drop-nil (n - k)

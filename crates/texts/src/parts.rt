@@ -1,5 +1,5 @@
 // What stands between the separators of a text, one part after the other.
-ghost use Rattle.std.specs.Prelude.{◌≡◌, [], ◌∷◌, MatchOption};
+ghost use Rattle.std.specs.Prelude.{◌≡◌, [], ◌∷◌, drop, MatchOption};
 ghost use Rattle.texts.specs.Parts.{parts, parts_left};
 
 use memchr::memchr;
@@ -46,5 +46,15 @@ impl<'a> Parts<'a> {
                 Some(text)
             }
         }
+    }
+
+    // The part behind so many others, which are passed over.
+    pub fn nth_part(&mut self, before: u32) -> Option<&'a [u8]>
+        ensures the_part_behind_so_many { MatchOption result ((drop before (parts_left self.old) ≡ []) × (parts_left self.new ≡ [])) (λ part. drop before (parts_left self.old) ≡ part.now ∷ parts_left self.new) }
+    {
+        for _ in 0..before {
+            self.next_part()?;
+        }
+        self.next_part()
     }
 }
