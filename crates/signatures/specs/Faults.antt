@@ -81,7 +81,7 @@ abbrev pub fault_at : List ℕ → ℕ → Option Fault
 fault_at list n = option_map (λ number. record { number = number; position = n }) (signature_fault (line_at list n))
 
 abbrev pub fault_text : SignatureFault → List ℕ
-fault_text f = codes "fault " ++ decimal (cause_number f.cause) ++ codes " in line " ++ decimal f.line
+fault_text f = codes "fault " ++ decimal (cause_number f.cause) ++ codes " at " ++ decimal f.line
 
 -- a line has no fault exactly where a proper signature writes it
 pub record FaultlessLineIsASignature (list : List ℕ) (n : ℕ) : Type 0 where

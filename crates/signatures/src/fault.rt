@@ -42,7 +42,7 @@ impl fmt::Display for SignatureFault {
     fn fmt<W: fmt::Write>(&self, f: &mut fmt::Formatter<W>) -> fmt::Result {
         let number = self.cause.number();
         let line = self.line;
-        write!(f, "fault {number} in line {line}")
+        write!(f, "fault {number} at {line}")
     }
 }
 
