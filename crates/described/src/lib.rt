@@ -4,5 +4,3 @@
 pub mod built_in;
 pub mod making;
 pub mod pile;
-#[cfg(test)]
-mod placing;

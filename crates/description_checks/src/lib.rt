@@ -4,4 +4,8 @@
 #[cfg(test)]
 mod faults;
 #[cfg(test)]
+mod made;
+#[cfg(test)]
 mod piles;
+#[cfg(test)]
+mod placing;

@@ -1,34 +1,9 @@
 // What proper descriptions say: where their piles place values, and which registers they keep.
-use described::pile::Pile;
+use crate::placing::places;
 use description::description::Description;
-use stage::Stage;
-use std::alloc::{AllocError, Global};
+use std::alloc::Global;
 use std::process::Abort;
 use std::test::Fail;
-use values::value_type::ValueType;
-
-// The answer as text: a place, or the line of the stage that refused.
-fn answer(heap: Global, pile: &mut Pile, value: ValueType) -> Result<String, AllocError> {
-    match pile.place(value.request()) {
-        Ok(place) => format!(in heap; "{place}"),
-        Err(refusal) => format!(in heap; "line {}", refusal.line),
-    }
-}
-
-// Each word's type goes, at its own alignment, to the place beside it.
-fn places(
-    rt: &impl Abort,
-    heap: Global,
-    pile: &mut Pile,
-    table: &[(&str, &str)],
-) -> Result<(), Fail> {
-    for (word, place) in table {
-        let value = ValueType::try_from(word.as_bytes())?;
-        let given = answer(heap, pile, value)?;
-        assert_eq!(rt; given.as_str(), *place, "{}", *word);
-    }
-    Ok(())
-}
 
 // The text is read, its piles place as in the tables, and its kept set has those registers and no others.
 fn says(

@@ -2,6 +2,8 @@
 #![tactic(auto)]
 
 #[cfg(test)]
+mod built_in;
+#[cfg(test)]
 mod deliveries;
 #[cfg(test)]
 mod faults;

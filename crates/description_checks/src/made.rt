@@ -1,36 +1,11 @@
-// Where described piles place values, and which lines their refusals carry: expected values are worked out by hand.
-use crate::pile::Pile;
+// Described piles that are made and not read: where they place values, and which lines their refusals carry.
+use crate::placing::places;
 use adjust::Change;
 use conditions::Test;
+use described::pile::Pile;
 use stage::Stage;
-use std::alloc::{AllocError, Global};
-use std::process::Abort;
 use std::test::Fail;
 use values::sizes::Size;
-use values::value_type::ValueType;
-
-// The answer as text: a place, or the line of the stage that refused.
-fn text(heap: Global, pile: &mut Pile, value: ValueType) -> Result<String, AllocError> {
-    match pile.place(value.request()) {
-        Ok(place) => format!(in heap; "{place}"),
-        Err(refusal) => format!(in heap; "line {}", refusal.line),
-    }
-}
-
-// Each word's type goes, at its own alignment, to the place beside it.
-fn places(
-    rt: &impl Abort,
-    heap: Global,
-    pile: &mut Pile,
-    table: &[(&str, &str)],
-) -> Result<(), Fail> {
-    for (word, place) in table {
-        let value = ValueType::try_from(word.as_bytes())?;
-        let given = text(heap, pile, value)?;
-        assert_eq!(rt; given.as_str(), *place, "{}", *word);
-    }
-    Ok(())
-}
 
 #[test]
 fn clear_reopens_a_shut_below(rt: HostRuntime) -> Result<(), Fail> {
