@@ -16,5 +16,5 @@ has_the_form bytes l e = (words_of_its_line (parts 32 bytes) l e).0
 
 pub read_of_checked : (before : List Line) (bytes : List ℕ) (l : Line) (result : Result (Unit {0}) DescriptionFault) (r : Reading) → length bytes ≤ 120 → line_of (parts 32 bytes) ≡ Some l → Checked before l result r → Read before bytes result r
 read_of_checked before bytes l (Ok u) r m e h = (l, rw (le-leb (length bytes) 120 m, e) (ap (λ o. unless o l) h.0), h.1)
-read_of_checked before bytes l (Err Memory) r m e h = tt
+read_of_checked before bytes l (Err Memory) r m e h = (l, h.0, rw (le-leb (length bytes) 120 m, e) (ap (λ o. unless o l) h.1))
 read_of_checked before bytes l (Err (Text c k)) r m e h = (rw (le-leb (length bytes) 120 m, e) (ap (λ o. unless o l) h.0), h.1)

@@ -1,6 +1,6 @@
 -- A stage line more.
 use Rattle.std.proofs.Common.{◌≡◌, ℕ, ◌+◌, ◌<◌, ◌≤◌, Bool, true, false, List, [], ◌∷◌, ◌++◌, Option, Some, None, length, refl, ap, sym, subst, ◌∙◌, nat_le, arith}
-use Rattle.std.proofs.lemmas.Bool.{le-leb}
+use Rattle.std.proofs.lemmas.Bool.{le-leb, leb-true}
 use Rattle.std.specs.List.{slice_index}
 use Rattle.std.specs.Option.{is_some}
 use Rattle.stage.specs.Books.{Profile}
@@ -54,6 +54,13 @@ made_of_line line s p stages pile f l a =
     let y = stage_at stages (slice_index s.below.items 1) in
     subst (λ q. AtStart q pile) (f.makes_what_the_line_says x y ∙ ap (λ n. profile_by n s.stage s.parameter x y) l) a
 
+-- whether there is room for a stage more
+pub all_taken_up : (stages : List Profile) (named : List ℕ) (t : Stages) → HasStages stages named t → nat_le 24 (length t.free.items) ≡ true → 24 ≤ length stages
+all_taken_up stages named t h e = omega (arith, h.as_many, leb-true 24 (length t.free.items) e)
+
+pub room_left : (stages : List Profile) (named : List ℕ) (t : Stages) → HasStages stages named t → nat_le 24 (length t.free.items) ≡ false → length stages < 24
+room_left stages named t h e = grind (arith, h.as_many, e)
+
 module _ (before : List Line) (s : StageLine) (r : Reading) (h : HasRead before r) (e : is_some r.arguments ≡ false) (range : is_in_range (Stage s) ≡ true) where
   abbrev free : Bool
   free = are_free (length (meaning_of before).stages) (all_named before) s.below.items
@@ -70,12 +77,15 @@ module _ (before : List Line) (s : StageLine) (r : Reading) (h : HasRead before 
   few : (n : ℕ) → n < 24 → nat_le 24 n ≡ false
   few n l = grind (arith, l)
 
+  pub no_fault : free ≡ true → length (meaning_of before).stages < 24 → number_of_fault before (Stage s) ≡ None
+  no_fault f m = rw (no_arguments before r h e, range, free_here true f, few (stages_in before) (omega (arith, m, stages_counted before))) refl
+
   pub with_stage : (t : Stages) → free ≡ true → length (meaning_of before).stages < 24 → HasStages ((meaning_of before).stages ++ profile_of (meaning_of before).stages s ∷ []) (all_named before ++ s.below.items) t
       → (number_of_fault before (Stage s) ≡ None) × HasRead (before ++ Stage s ∷ []) (reading t r.arguments r.results r.kept)
   with_stage t f m k =
       let none = no_arguments before r h e in
       let c = closing_in before in (
-        rw (none, range, free_here true f, few (stages_in before) (omega (arith, m, stages_counted before))) refl,
+        no_fault f m,
         has_read before (Stage s) (reading t r.arguments r.results r.kept) (record {
           stages = k;
           arguments = absent 1 c (c + 0) r.arguments _ _ (omega (arith, none)) (omega (arith, none)) h.arguments;

@@ -1,12 +1,12 @@
 // What a stage line makes, before its stages below are at hand.
-ghost use Rattle.std.specs.Prelude.{◌≡◌, false, true, MatchResult};
+ghost use Rattle.std.specs.Prelude.{◌≡◌, ◌≤◌, false, true, IfErr, MatchResult};
 ghost use Rattle.stage.specs.Books.{Profile};
 ghost use Rattle.described.specs.Piles.{AtStart};
 ghost use Rattle.pages.specs.Lines.{HasTheForm};
 ghost use Rattle.pages.specs.Pages.{is_in_range};
 ghost use Rattle.pages.specs.declared.lines.Line.TheVariants.{Stage};
 ghost use Rattle.pages.specs.declared.faults.DescriptionFault.TheVariants.{Memory};
-ghost use Rattle.description.specs.Plans.{made_by, PlanFits, AreBelow};
+ghost use Rattle.description.specs.Plans.{made_by, needs, PlanFits, AreBelow};
 
 use adjust::Change;
 use conditions::Test;
@@ -64,6 +64,7 @@ impl Plan {
         heap: Global,
     ) -> Result<Pile, DescriptionFault>
         ensures made_of_the_stages_below { (a b : Profile) → AreBelow self first second a b → MatchResult result (AtStart (made_by line self a b)) (λ f. f ≡ Memory) }
+        ensures a_bottom_wants_no_memory { (a b : Profile) → AreBelow self first second a b → IfErr result (λ _. 1 ≤ needs self) }
     {
         match (self, first, second) {
             (Plan::Bottom(pile), _, _) => Ok(pile),

@@ -76,13 +76,14 @@ impl Reading {
                 line,
             });
         };
-        let pile = plan.build(line, first, second, heap)?;
-        let Some(()) = self.stages.push(pile) else {
+        if self.stages.is_full() {
             return Err(DescriptionFault::Text {
                 cause: Cause::Count,
                 line,
             });
-        };
+        }
+        let pile = plan.build(line, first, second, heap)?;
+        self.stages.push(pile);
         Ok(())
     }
 

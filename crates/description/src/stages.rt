@@ -1,5 +1,5 @@
 // The stages that were read, until a later line names them.
-ghost use Rattle.std.specs.Prelude.{◌≡◌, ◌<◌, ◌≤◌, [], ◌∷◌, ◌++◌, ℕ, List, true, false, length, MatchOption};
+ghost use Rattle.std.specs.Prelude.{◌≡◌, ◌<◌, ◌≤◌, [], ◌∷◌, ◌++◌, ℕ, List, true, false, length, nat_le, MatchOption};
 ghost use Rattle.stage.specs.Books.{Profile};
 ghost use Rattle.described.specs.Piles.{AtStart};
 ghost use Rattle.pages.specs.Rules.{is_free, are_free, all_used};
@@ -56,11 +56,18 @@ impl Stages {
         self.free.len()
     }
 
-    // One stage more, if there is room for it.
-    pub(crate) fn push(&mut self, pile: Pile) -> Option<()>
-        ensures a_25th_is_refused { (stages : List Profile) (named : List ℕ) (p : Profile) → HasStages stages named self.old → AtStart p pile → MatchOption result (24 ≤ length stages) (λ _. (length stages < 24) × HasStages (stages ++ p ∷ []) named self.new) }
+    // Whether there is no room for one more.
+    pub(crate) fn is_full(&self) -> bool
+        ensures whether_there_are_24 { result ≡ nat_le 24 (length self.now.free.items) }
     {
-        self.free.try_push(Some(pile)).ok()
+        self.free.is_full()
+    }
+
+    pub(crate) fn push(&mut self, pile: Pile)
+        requires room_for_one_more { length self.now.free.items < 24 }
+        ensures one_stage_more { (stages : List Profile) (named : List ℕ) (p : Profile) → HasStages stages named self.old → AtStart p pile → HasStages (stages ++ p ∷ []) named self.new }
+    {
+        self.free.push(Some(pile));
     }
 
     // Whether each stage was named.
