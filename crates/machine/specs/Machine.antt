@@ -1,5 +1,5 @@
 -- The machine: what each instruction does, one step, and a run.
-use Rattle.std.specs.Prelude.{ℕ, zero, suc, ◌+◌, ◌-◌, ◌*◌, ◌/◌, ◌%◌, ◌^◌, Bool, true, false, cond, ◌&&◌, List, length, ℤ, pos, negsuc, ◌+ℤ◌, Some, None, Ok, Err, Option, Result, nat_le, nat_lt, slice_index, slice_set}
+use Rattle.std.specs.Prelude.{ℕ, zero, suc, ◌+◌, ◌-◌, ◌*◌, ◌/◌, ◌%◌, ◌^◌, Bool, true, false, cond, ◌&&◌, List, length, ℤ, pos, negsuc, ◌+ℤ◌, Some, None, Option, nat_le, nat_lt, slice_index, slice_set}
 use Rattle.std.proofs.Common.{of_z}
 use Rattle.std.specs.Int.{w32}
 use Rattle.std.specs.List.{slice_get}
@@ -14,8 +14,6 @@ use Rattle.machine.specs.declared.Mode.TheVariants.{Running, Ended}
 use Rattle.machine.specs.declared.Machine.{Machine}
 use Rattle.machine.specs.declared.Outcome.{Outcome}
 use Rattle.machine.specs.declared.Outcome.TheVariants as Outcomes
-use Rattle.machine.specs.declared.RunFault.{RunFault}
-use Rattle.machine.specs.declared.RunFault.TheVariants.{MemoryTooLarge}
 
 -- registers and memory
 pub record Contents : Type 0 where
@@ -198,12 +196,3 @@ outcome_from (Running _ _) (Some _) = Outcomes.Spent
 -- ended by its mode; else stuck where no next state is, and spent where one is
 abbrev pub outcome_of : List Instruction → List Instruction → State → Outcome
 outcome_of caller callee s = outcome_from s.mode (next caller callee s)
-
--- a fault's number and position
-abbrev pub fault_of : RunFault → ℕ × ℕ
-fault_of MemoryTooLarge = (51, 0)
-
--- the fault that an answer reports, if it does
-abbrev pub fault_in : {T : Type 0} → Result T RunFault → Option (ℕ × ℕ)
-fault_in (Ok _) = None
-fault_in (Err e) = Some (fault_of e)

@@ -2,10 +2,12 @@
 #![tactic(auto)]
 
 ghost use Rattle.std.specs.Prelude.{◌≡◌, ◌+◌, ◌-◌, ◌^◌, ◌<◌, ◌≤◌, true, length, is_some, IfOk, if◌then◌else◌, Some, None, OnErr, OnOk, OnSome, nat_lt};
-ghost use Rattle.machine.specs.Machine.{ok, reg, address, bytes_of, loaded, stored, sign_of, contents_of, state_of, effect, next, or_same, instruction_at, runs, outcome_of, fault_in};
+ghost use Rattle.machine.specs.Machine.{ok, reg, address, bytes_of, loaded, stored, sign_of, contents_of, state_of, effect, next, or_same, instruction_at, runs, outcome_of};
+ghost use Rattle.machine.specs.Faults.{fault_in, memory_fault};
 ghost use Rattle.machine.specs.Fetch.{carried, LeadsTo, index_of};
 ghost use Rattle.machine.specs.Laws.{OnlyWritten, LargerBudgetGoesOn, StoppedStays, SpentUsesUpBudget, StuckExactlyWhere, StraightLineComposes, CallOfStraightLinesEnds};
 
+mod faults;
 mod text;
 
 // How many bytes LOAD and STORE move.
@@ -82,9 +84,10 @@ pub enum Outcome {
     Spent,
 }
 
-// Why a run is refused, with nothing changed. A memory that is too large is fault 51, at position 0.
+// Why a run is refused, with nothing changed.
 #[derive(Clone, Copy, PartialEq, Eq, Debug)]
 pub enum RunFault {
+    // More than 65,536 bytes.
     MemoryTooLarge,
 }
 
@@ -319,7 +322,7 @@ impl Machine {
         program: Program,
         budget: usize,
     ) -> Result<(Outcome, usize), RunFault>
-        ensures refuses_with_fault_51_at_0_where_memory_is_too_large { fault_in result ≡ (if nat_lt 65536 (length memory.old) then Some (51, 0) else None) }
+        ensures refuses_with_fault_51_at_0_where_memory_is_too_large { fault_in result ≡ memory_fault (length memory.old) }
         ensures a_refusal_changes_nothing { OnErr result (state_of self.new memory.new ≡ state_of self.old memory.old) }
         ensures state_after_is_the_last_of_the_run { OnOk result (state_of self.new memory.new ≡ (runs program.entry.caller.now program.entry.callee.now budget (state_of self.old memory.old)).last) }
         ensures outcome_is_that_of_the_last_state { IfOk result (λ a. a.0 ≡ outcome_of program.entry.caller.now program.entry.callee.now (runs program.entry.caller.now program.entry.callee.now budget (state_of self.old memory.old)).last) }

@@ -1,5 +1,6 @@
 // What instructions and outcomes print.
 ghost use Rattle.std.specs.Prelude.{Some};
+ghost use Rattle.std.specs.Fmt.{padded};
 ghost use Rattle.machine.specs.Text.{instruction_text, outcome_text};
 
 use crate::{Instruction, Outcome};
@@ -41,11 +42,13 @@ impl fmt::Display for Instruction {
 impl fmt::Display for Outcome {
     ghost output = { λ o. Some (outcome_text o) };
 
+    ghost styled_output = { λ o style. Some (padded style (outcome_text o)) };
+
     fn fmt<W: fmt::Write>(&self, f: &mut fmt::Formatter<W>) -> fmt::Result {
         match self {
-            Outcome::Ended => f.write_str("ended"),
-            Outcome::Stuck => f.write_str("stuck"),
-            Outcome::Spent => f.write_str("spent"),
+            Outcome::Ended => f.pad("ended"),
+            Outcome::Stuck => f.pad("stuck"),
+            Outcome::Spent => f.pad("spent"),
         }
     }
 }

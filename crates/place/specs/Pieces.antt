@@ -63,6 +63,16 @@ PiecesApart (Double low high) = Apart low high
 abbrev pub PlacesApart : Place → Place → Type 0
 PlacesApart p q = AllByRecursion (λ x. AllByRecursion (Apart x) (pieces q)) (pieces p)
 
+-- no two of the places share a byte
+abbrev pub EachApart : List Place → Type 0
+EachApart [] = Unit {0}
+EachApart (p ∷ ps) = AllByRecursion (PlacesApart p) ps × EachApart ps
+
+-- block bytes that all lie below n
+abbrev pub Below : ℕ → Piece → Type 0
+Below n (Register r) = Unit {0}
+Below n (Block o w) = o + bytes w ≤ n
+
 -- a piece as it is printed: r and its number, or + offset / width
 abbrev pub piece_text : Piece → List ℕ
 piece_text (Register r) = 114 ∷ decimal r

@@ -1,2 +1,2 @@
-mod Words
+mod AllTypes
 pub mod Rounding

@@ -1,17 +1,26 @@
 // Kinds of values, and the letters that stand for them.
 ghost use Rattle.std.specs.Prelude.{◌≡◌};
 ghost use Rattle.values.specs.Kinds.{letter_of, KindOfTheLetterOrNone};
+ghost use Rattle.values.specs.declared.kinds.Kind.TheVariants.{Unsigned};
 
 use crate::unknown::Unknown;
 
-#[derive(Clone, Copy, PartialEq, Eq, Debug, Default)]
+#[derive(Clone, Copy, PartialEq, Eq, Debug)]
 pub enum Kind {
-    #[default]
     Unsigned,
     Signed,
     // The bits of a floating-point number.
     Float,
     Address,
+}
+
+// What stands where no kind was given.
+impl Default for Kind {
+    ghost is_default = { λ k. k ≡ Unsigned };
+
+    fn default() -> Kind {
+        Self::Unsigned
+    }
 }
 
 impl From<Kind> for char {

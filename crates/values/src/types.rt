@@ -1,5 +1,6 @@
 // Types of values: from a kind and a width, from a word, as a word, as a request.
 ghost use Rattle.std.specs.Prelude.{◌≡◌, true, Some, MatchResult, ◌≢◌};
+ghost use Rattle.std.specs.Fmt.{padded};
 ghost use Rattle.values.specs.Kinds.{is_type};
 ghost use Rattle.values.specs.declared.kinds.Kind.TheVariants.{Unsigned};
 ghost use Rattle.values.specs.declared.sizes.Size.TheVariants.{One};
@@ -72,9 +73,14 @@ impl TryFrom<&[u8]> for ValueType {
 impl fmt::Display for ValueType {
     ghost output = { λ t. Some (word_of t) };
 
+    ghost styled_output = { λ t style. Some (padded style (word_of t)) };
+
     fn fmt<W: fmt::Write>(&self, f: &mut fmt::Formatter<W>) -> fmt::Result {
         let letter = char::from(self.kind);
-        let width = self.width.bytes();
-        write!(f, "{letter}{width}")
+        let word = [letter as u8, b'0' + self.width.bytes() as u8];
+        match str::from_utf8(&word) {
+            Ok(text) => f.pad(text),
+            Err(_) => Err(fmt::Error),
+        }
     }
 }
