@@ -4,12 +4,17 @@ use Rattle.stage.specs.Books.{Book, Blame, Entry, Questions, Profile, book_of, a
 use Rattle.values.specs.Requests.{widened, raised}
 use Rattle.values.specs.declared.requests.Request.{Request}
 use Rattle.adjust.specs.declared.Change.{Change}
-use Rattle.adjust.specs.declared.Change.TheVariants.{Width, Alignment}
+use Rattle.adjust.specs.declared.Least.{Least}
+use Rattle.adjust.specs.declared.Least.TheVariants.{Width, Alignment}
 
 -- widen and raise change the width or the alignment, where it is smaller
+abbrev pub raised_to : Least → Request → Request
+raised_to (Width m) = widened m
+raised_to (Alignment m) = raised m
+
+-- what a change makes of a request
 abbrev pub changed : Change → Request → Request
-changed (Width m) = widened m
-changed (Alignment m) = raised m
+changed c = raised_to c.least
 
 -- each request is changed on its way down
 abbrev pub map_shows : (Request → Request) → Book → Entry

@@ -1,19 +1,20 @@
 -- A layer that asks for no less than it is asked for is lawful where what is below it is.
 use Rattle.std.specs.Prelude.{◌≡◌, ℕ, ◌%◌, ◌≤◌, []}
-use Rattle.std.proofs.Common.{arith}
+use Rattle.std.proofs.Common.{ap, arith}
 use Rattle.place.specs.Pieces.{low_piece}
 use Rattle.place.specs.declared.pieces.Piece.{Piece}
 use Rattle.place.specs.declared.pieces.Piece.TheVariants.{Register, Block}
 use Rattle.place.specs.declared.pieces.Place.{Place}
 use Rattle.stage.proofs.Runs.{along, Always, always_after, Spares, SparesNow, spares_after}
-use Rattle.stage.specs.Books.{Book, Questions, book_of, after}
+use Rattle.stage.specs.Books.{Book, Questions, Profile, Alike, book_of, after}
 use Rattle.stage.specs.Lawful.{Aligned, Granted, LawfulHere, Lawful}
 use Rattle.values.proofs.Rounding.{grown, divides}
 use Rattle.values.specs.Sizes.{bytes, larger_of}
 use Rattle.values.specs.declared.requests.Request.{Request}
-use Rattle.adjust.specs.Adjusting.{map_shows, map_book, map_questions, changed}
+use Rattle.adjust.specs.Adjusting.{map_shows, map_book, map_questions, map_profile, raised_to, changed}
 use Rattle.adjust.specs.declared.Change.{Change}
-use Rattle.adjust.specs.declared.Change.TheVariants.{Width, Alignment}
+use Rattle.adjust.specs.declared.Least.{Least}
+use Rattle.adjust.specs.declared.Least.TheVariants.{Width, Alignment}
 
 -- a change that asks for no less
 record Grows (f : Request → Request) : Type 0 where
@@ -57,9 +58,16 @@ map_lawful f w q b l = record {
   after_every_list = along (map_shows f) (map_next f) (Always q) (λ b r. always_after q b (f r)) (LawfulHere (map_questions f q)) (map_here f w q) b l.after_every_list;
 }
 
-changes_grow : (c : Change) → Grows (changed c)
+changes_grow : (c : Least) → Grows (raised_to c)
 changes_grow (Width m) = record { wider = λ r. grown m r.width; finer = λ r o e. e }
 changes_grow (Alignment m) = record { wider = λ r. omega arith; finer = λ r o. divides (larger_of m r.alignment) r.alignment o (grown m r.alignment) }
 
 pub adjust_lawful : (c : Change) (q : Questions) (b : Book) → Lawful q b → Lawful (map_questions (changed c) q) (map_book (changed c) b)
-adjust_lawful c = map_lawful (changed c) (changes_grow c)
+adjust_lawful c = map_lawful (changed c) (changes_grow c.least)
+
+-- stages that are alike are alike behind a change
+pub map_alike : (f : Request → Request) (p q : Profile) → Alike p q → Alike (map_profile f p) (map_profile f q)
+map_alike f p q h = record {
+  equal_first_books = ap (map_book f) h.equal_first_books;
+  equal_answers_to_questions = ap (map_questions f) h.equal_answers_to_questions;
+}

@@ -2,11 +2,11 @@
 #![tactic(auto)]
 
 ghost use Rattle.std.specs.Prelude.{◌≡◌, IfOk};
-ghost use Rattle.stage.specs.Clearing.{IsClearedOf};
+ghost use Rattle.stage.specs.Clearing.{Begins};
 ghost use Rattle.stage.specs.Faults.{fault_of, width_fault};
-ghost use Rattle.values.specs.Sizes.{bytes};
+ghost use Rattle.values.specs.Requests.{widened, raised};
+ghost use Rattle.values.specs.Sizes.{OfBytes};
 ghost use Rattle.adjust.specs.Adjusting.{changed, map_book, map_blame, map_profile};
-ghost use Rattle.adjust.specs.declared.Change.TheVariants.{Width, Alignment};
 ghost use Rattle.adjust.specs.AdjustingLemmas.{adjust_lawful};
 
 use place::pieces::Place;
@@ -15,10 +15,16 @@ use stage::{ParameterFault, Refusal, Stage, raised_size};
 use values::requests::Request;
 use values::sizes::Size;
 
-// What of a request is raised, and to what at least. Two cases, since a trait with an instance for each would be longer than
-// the match.
+// A change of requests on their way down: the width or the alignment is raised to 2, 4 or 8 bytes, where it is smaller. Its
+// makers refuse every other number, so none is made that raises to 1.
 #[derive(Clone, Copy, PartialEq, Eq, Debug)]
-pub enum Change {
+pub struct Change {
+    least: Least,
+}
+
+// What the change leaves at the least. Two cases, since a trait with an instance for each would be longer than the match.
+#[derive(Clone, Copy, PartialEq, Eq, Debug)]
+enum Least {
     Width(Size),
     Alignment(Size),
 }
@@ -30,41 +36,66 @@ pub struct Adjust<S> {
 }
 
 impl Change {
+    // Raises a smaller width to m bytes.
+    pub fn widen(m: u8) -> Result<Change, ParameterFault>
+        ensures refused_unless_2_4_or_8 { fault_of result ≡ width_fault m }
+        ensures raises_the_width_to_m { IfOk result (λ c. OfBytes m (λ size. changed c ≡ widened size)) }
+    {
+        let least = Least::Width(raised_size(m)?);
+        Ok(Change { least })
+    }
+
+    // Raises a smaller alignment to m bytes.
+    pub fn raise(m: u8) -> Result<Change, ParameterFault>
+        ensures refused_unless_2_4_or_8 { fault_of result ≡ width_fault m }
+        ensures raises_the_alignment_to_m { IfOk result (λ c. OfBytes m (λ size. changed c ≡ raised size)) }
+    {
+        let least = Least::Alignment(raised_size(m)?);
+        Ok(Change { least })
+    }
+
     pub fn apply(self, request: Request) -> Request
         ensures the_changed_request { result ≡ changed self request }
     {
-        match self {
-            Change::Width(m) => request.widened(m),
-            Change::Alignment(m) => request.raised(m),
+        match self.least {
+            Least::Width(m) => request.widened(m),
+            Least::Alignment(m) => request.raised(m),
+        }
+    }
+}
+
+impl<S: Stage> Adjust<S> {
+    // The stage below, cleared, behind a change.
+    pub fn new(change: Change, below: S) -> Adjust<S>
+        ensures means_the_change_in_front { Begins ⟦<Adjust<S> as Stage>⟧
+            (map_profile (changed change) (S.Stage.profile below)) result }
+    {
+        Adjust {
+            change,
+            below: below.cleared(),
         }
     }
 }
 
 impl<S: Stage + Drop> Adjust<S> {
-    // Raises a smaller width to m. `raise` differs in the case alone; one maker that is told which is longer than both.
+    // Raises a smaller width to m.
     pub fn widen(m: u8, below: S) -> Result<Adjust<S>, ParameterFault>
         ensures refused_unless_2_4_or_8 { fault_of result ≡ width_fault m }
-        ensures raises_the_width_to_m { IfOk result (λ s. (size : Size) × (s.change ≡ Width size) × (bytes size ≡ m)) }
-        ensures stage_below_is_cleared { IfOk result (λ s. IsClearedOf S.Stage s.below below) }
+        ensures means_widen { IfOk result (λ s. OfBytes m (λ size.
+            Begins ⟦<Adjust<S> as Stage>⟧ (map_profile (widened size) (S.Stage.profile below)) s)) }
     {
-        let change = Change::Width(raised_size(m)?);
-        Ok(Adjust {
-            change,
-            below: below.cleared(),
-        })
+        let change = Change::widen(m)?;
+        Ok(Adjust::new(change, below))
     }
 
     // Raises a smaller alignment to m.
     pub fn raise(m: u8, below: S) -> Result<Adjust<S>, ParameterFault>
         ensures refused_unless_2_4_or_8 { fault_of result ≡ width_fault m }
-        ensures raises_the_alignment_to_m { IfOk result (λ s. (size : Size) × (s.change ≡ Alignment size) × (bytes size ≡ m)) }
-        ensures stage_below_is_cleared { IfOk result (λ s. IsClearedOf S.Stage s.below below) }
+        ensures means_raise { IfOk result (λ s. OfBytes m (λ size.
+            Begins ⟦<Adjust<S> as Stage>⟧ (map_profile (raised size) (S.Stage.profile below)) s)) }
     {
-        let change = Change::Alignment(raised_size(m)?);
-        Ok(Adjust {
-            change,
-            below: below.cleared(),
-        })
+        let change = Change::raise(m)?;
+        Ok(Adjust::new(change, below))
     }
 }
 

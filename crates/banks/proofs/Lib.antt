@@ -1,1 +1,4 @@
 mod Moves
+mod Grants
+mod Listed
+mod Spans

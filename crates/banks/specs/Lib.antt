@@ -2,4 +2,3 @@ pub mod Lists
 pub mod Banks
 pub mod Grants
 pub mod BanksLemmas
-pub mod GrantsLemmas

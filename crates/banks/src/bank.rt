@@ -1,5 +1,5 @@
 // A bank of registers, which it gives in an order of its own.
-ghost use Rattle.std.specs.Prelude.{◌≡◌, ◌≤◌, IfOk, MatchOption, OnOk};
+ghost use Rattle.std.specs.Prelude.{◌≡◌, ◌≤◌, IfOk, MatchOption};
 ghost use Rattle.stage.specs.Books.{built_in};
 ghost use Rattle.stage.specs.Faults.{fault_of};
 ghost use Rattle.banks.specs.Lists.{list_fault};
@@ -27,16 +27,11 @@ pub trait Order {
     // Where its cursor ends.
     ghost end: { List ℕ → ℕ };
 
-    // What its places are over every list of requests.
-    ghost Gives: { List ℕ → Type 0 };
-
     // The place for a request, and where the cursor stands behind it.
     fn find(list: &RegisterList, cursor: u16, request: Request) -> Option<(Place, u16)>
         ensures the_move_at_the_cursor { MatchOption result (does list.now.registers.items cursor request ≡ refuse cursor) (λ a. (does list.now.registers.items cursor request ≡ grant a.0 a.1) × (a.1 ≤ end list.now.registers.items)) };
 
     ghost lawful: { (xs : List ℕ) → distinct xs ≡ true → Lawful (bank_questions xs) (bank_book does xs 0) };
-
-    ghost gives_on_every_list: { (xs : List ℕ) → Gives xs };
 }
 
 #[derive(Drop)]
@@ -48,10 +43,10 @@ pub struct Bank<O: Order> {
 }
 
 impl<O: Order> Bank<O> {
-    pub fn new(registers: &[u8]) -> Result<Bank<O>, ParameterFault>
+    // A bank of any order: what it gives is promised by the maker of each order, which stands beside the order.
+    pub(crate) fn of_list(registers: &[u8]) -> Result<Bank<O>, ParameterFault>
         ensures refused_by_count_then_by_register { fault_of result ≡ list_fault registers.now }
         ensures starts_with_the_list { IfOk result (λ s. (s.list.registers.items ≡ registers.now) × (s.cursor ≡ 0)) }
-        ensures gives_by_its_order { OnOk result (O.Gives registers.now) }
     {
         let list = RegisterList::new(registers)?;
         Ok(Bank {

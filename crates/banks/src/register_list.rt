@@ -23,10 +23,10 @@ impl RegisterList {
         ensures refused_by_count_then_by_register { fault_of result ≡ list_fault list.now }
         ensures holds_the_list { IfOk result (λ l. l.registers.items ≡ list.now) }
     {
-        if list.is_empty() {
+        if list.is_empty() || list.len() > 16 {
             return Err(ParameterFault::Form);
         }
-        let registers = ArrayVec::try_from(list).map_err(|_| ParameterFault::Form)?;
+        let registers = ArrayVec::try_from(list).unwrap();
         let set = gather(list).ok_or(ParameterFault::Range)?;
         Ok(RegisterList { registers, set })
     }

@@ -1,9 +1,10 @@
 // The block, given from its lowest byte upward.
 ghost use Rattle.std.specs.Prelude.{◌≡◌, ◌≤◌, IfOk};
 ghost use Rattle.stage.specs.Books.{built_in};
+ghost use Rattle.stage.specs.Clearing.{Begins};
 ghost use Rattle.stage.specs.Faults.{fault_of};
-ghost use Rattle.values.specs.Sizes.{bytes};
-ghost use Rattle.blocks.specs.Grants.{FollowOneAnother};
+ghost use Rattle.values.specs.Sizes.{OfBytes};
+ghost use Rattle.blocks.specs.Grants.{GivesUpward};
 ghost use Rattle.blocks.specs.Blocks.{up_book, up_profile, block_place, limit_fault};
 ghost use Rattle.blocks.specs.BlocksLemmas.{up_lawful};
 
@@ -24,8 +25,9 @@ pub struct Up {
 impl Up {
     pub fn new(limit: u8) -> Result<Up, ParameterFault>
         ensures refused_unless_1_2_4_or_8 { fault_of result ≡ limit_fault limit }
-        ensures starts_empty_with_the_limit { IfOk result (λ s. (bytes s.limit ≡ limit) × (s.used ≡ 0)) }
-        ensures places_follow_one_another { IfOk result (λ s. FollowOneAnother s.limit) }
+        ensures means_up { IfOk result (λ s. OfBytes limit (λ size.
+            Begins ⟦<Up as Stage>⟧ (up_profile size) s)) }
+        ensures gives_upward { IfOk result (λ s. GivesUpward limit (⟦<Up as Stage>⟧.book s)) }
     {
         let limit = Size::try_from(limit)?;
         Ok(Up { limit, used: 0 })

@@ -1,5 +1,6 @@
 -- The tests by which a layer chooses.
-use Rattle.std.specs.Prelude.{Bool, true, false, cond, not, ◌&&◌, List, [], ◌∷◌, length, Some, None, Option, nat_le}
+use Rattle.std.specs.Prelude.{◌≡◌, ℕ, Bool, true, false, cond, not, ◌&&◌, ◌||◌, List, [], ◌∷◌, length, Some, None, Option, nat_le, nat_eq}
+use Rattle.values.specs.Kinds.{letter_of}
 use Rattle.values.specs.Sizes.{bytes}
 use Rattle.values.specs.declared.kinds.Kind.{Kind}
 use Rattle.values.specs.declared.kinds.Kind.TheVariants.{Unsigned, Signed, Float, Address}
@@ -42,6 +43,23 @@ meets_rule (AtLeast m) r = nat_le (bytes m) (bytes r.width)
 
 abbrev pub meets : Test → Request → Bool
 meets t = meets_rule t.rule
+
+-- a test that these requests meet, and no other
+abbrev pub MeetsExactly : (Request → Bool) → Test → Type 0
+MeetsExactly these t = (r : Request) → meets t r ≡ these r
+
+-- whether a kind stands in a list; kinds are told apart by their letters
+abbrev pub is_one_of : List Kind → Kind → Bool
+is_one_of [] k = false
+is_one_of (j ∷ js) k = nat_eq (letter_of j) (letter_of k) || is_one_of js k
+
+-- the requests whose kind is one of a list
+abbrev pub is_of_kinds : List Kind → Request → Bool
+is_of_kinds ks r = is_one_of ks r.kind
+
+-- the requests for n bytes at least
+abbrev pub is_at_least : ℕ → Request → Bool
+is_at_least n r = nat_le n (bytes r.width)
 
 -- a test is of one or more different kinds
 abbrev pub kinds_fault : List Kind → Option Fault

@@ -2,10 +2,8 @@
 #![tactic(auto)]
 
 ghost use Rattle.std.specs.Prelude.{◌≡◌, IfOk};
-ghost use Rattle.values.specs.Sizes.{bytes};
 ghost use Rattle.stage.specs.Faults.{fault_of, width_fault};
-ghost use Rattle.conditions.specs.Tests.{has_kind, with_kind, with_kinds, no_kinds, kinds_fault, meets};
-ghost use Rattle.conditions.specs.declared.Rule.TheVariants.{Kinds, AtLeast};
+ghost use Rattle.conditions.specs.Tests.{has_kind, with_kind, kinds_fault, meets, MeetsExactly, is_of_kinds, is_at_least};
 
 use stage::{ParameterFault, raised_size};
 use values::kinds::Kind;
@@ -14,7 +12,7 @@ use values::sizes::Size;
 
 // A flag for each kind: a set of the library would allocate, which no stage does, or give each kind a second name.
 #[derive(Clone, Copy, PartialEq, Eq, Debug)]
-pub struct KindSet {
+struct KindSet {
     unsigned: bool,
     signed: bool,
     float: bool,
@@ -23,7 +21,7 @@ pub struct KindSet {
 
 // Two cases, since a trait with an instance for each would be longer than the match.
 #[derive(Clone, Copy, PartialEq, Eq, Debug)]
-pub enum Rule {
+enum Rule {
     Kinds(KindSet),
     // At least this wide.
     AtLeast(Size),
@@ -74,7 +72,7 @@ impl Test {
     // Whether a request's kind is one of these, of which there is one at least and none twice.
     pub fn of_kinds(kinds: &[Kind]) -> Result<Test, ParameterFault>
         ensures refused_if_empty_or_repeated { fault_of result ≡ kinds_fault kinds.now }
-        ensures tests_for_these_kinds { IfOk result (λ t. t.rule ≡ Kinds (with_kinds no_kinds kinds.now)) }
+        ensures meets_exactly_requests_of_these_kinds { IfOk result (MeetsExactly (is_of_kinds kinds.now)) }
     {
         if kinds.is_empty() {
             return Err(ParameterFault::Form);
@@ -99,7 +97,7 @@ impl Test {
     // Whether a request is at least so wide: 2, 4 or 8 bytes.
     pub fn at_least(width: u8) -> Result<Test, ParameterFault>
         ensures refused_unless_2_4_or_8 { fault_of result ≡ width_fault width }
-        ensures tests_for_this_width { IfOk result (λ t. (s : Size) × (t.rule ≡ AtLeast s) × (bytes s ≡ width)) }
+        ensures meets_exactly_requests_so_wide { IfOk result (MeetsExactly (is_at_least width)) }
     {
         let size = raised_size(width)?;
         Ok(Test {

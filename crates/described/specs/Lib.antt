@@ -1,3 +1,4 @@
 pub mod Piles
 pub mod BuiltIn
 pub mod PilesLemmas
+pub mod Beside

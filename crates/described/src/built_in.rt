@@ -1,5 +1,5 @@
 // A described pile beside the same stages built in.
-ghost use Rattle.std.specs.Prelude.{◌≡◌};
+ghost use Rattle.stage.specs.Books.{Alike};
 ghost use Rattle.described.specs.BuiltIn.{built_in_profile};
 ghost use Rattle.described.specs.Piles.{pile_profile};
 
@@ -9,7 +9,6 @@ impl Pile {
     // A law of every described pile, with nothing to do when it runs: but for the lines that its refusals carry, it is what the
     // same stages are that are built in.
     pub fn same_as_built_in(&self)
-        ensures same_first_book { (pile_profile self.now).first ≡ (built_in_profile self.now).first }
-        ensures same_answers_to_questions { (pile_profile self.now).questions ≡ (built_in_profile self.now).questions }
+        ensures alike_the_same_stages_built_in { Alike (pile_profile self.now) (built_in_profile self.now) }
     {}
 }

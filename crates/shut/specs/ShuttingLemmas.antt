@@ -1,13 +1,13 @@
 -- Shut is lawful where what is below it is.
 use Rattle.std.specs.Prelude.{◌≡◌, ℕ, ◌≤◌, true, false, cond, not, [], is_some, Some, None, Option}
-use Rattle.std.proofs.Common.{arith}
+use Rattle.std.proofs.Common.{ap, arith}
 use Rattle.place.specs.Pieces.{PlacesApart}
 use Rattle.place.specs.declared.pieces.Place.{Place}
 use Rattle.stage.proofs.Runs.{along, Always, always_after, Spares, SparesNow, spares_after, lifted}
-use Rattle.stage.specs.Books.{Book, Questions, book_of, said, used, after}
+use Rattle.stage.specs.Books.{Book, Questions, Profile, Alike, book_of, said, used, after}
 use Rattle.stage.specs.Lawful.{Granted, LawfulHere, Lawful}
 use Rattle.values.specs.declared.requests.Request.{Request}
-use Rattle.shut.specs.Shutting.{Gate, gate, shut_shows, shut_next, shut_book, shut_questions}
+use Rattle.shut.specs.Shutting.{Gate, gate, shut_shows, shut_next, shut_book, shut_questions, shut_profile}
 
 abbrev passed : Gate → Request → Gate
 passed g r = gate (not (is_some (said g.below r))) (after g.below r)
@@ -43,4 +43,11 @@ shut_lawful q b l = record {
   registers_are_r0_to_r27 = l.registers_are_r0_to_r27;
   reach_is_0_at_first = l.reach_is_0_at_first;
   after_every_list = along shut_shows shut_next (λ g. Always q g.below) (shut_keeps (Always q) (always_after q)) (LawfulHere (shut_questions q)) (shut_here q) (gate false b) l.after_every_list;
+}
+
+-- stages that are alike are alike when they are shut, whatever the lines
+pub shut_alike : (line other : ℕ) (p q : Profile) → Alike p q → Alike (shut_profile line p) (shut_profile other q)
+shut_alike line other p q h = record {
+  equal_first_books = ap (shut_book false) h.equal_first_books;
+  equal_answers_to_questions = ap shut_questions h.equal_answers_to_questions;
 }

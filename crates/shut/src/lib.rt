@@ -1,8 +1,7 @@
 // A stage that is asked no more once it has refused, until it is cleared.
 #![tactic(auto)]
 
-ghost use Rattle.std.specs.Prelude.{◌≡◌, false};
-ghost use Rattle.stage.specs.Clearing.{IsClearedOf};
+ghost use Rattle.stage.specs.Clearing.{Begins};
 ghost use Rattle.shut.specs.Shutting.{shut_book, shut_blame, shut_profile};
 ghost use Rattle.shut.specs.ShuttingLemmas.{shut_lawful};
 
@@ -20,8 +19,7 @@ pub struct Shut<S> {
 
 impl<S: Stage> Shut<S> {
     pub fn new(below: S) -> Shut<S>
-        ensures is_not_closed { result.closed ≡ false }
-        ensures stage_below_is_cleared { IsClearedOf S.Stage result.below below }
+        ensures means_shut { Begins ⟦<Shut<S> as Stage>⟧ (shut_profile 0 (S.Stage.profile below)) result }
     {
         Shut {
             closed: false,

@@ -1,8 +1,6 @@
 -- The meaning of the layers over two sides, by the meaning of the sides.
 use Rattle.std.specs.Prelude.{ℕ, max, Bool, cond, not, ◌&&◌, ◌||◌, [], ◌∷◌, is_some, bit_or}
 use Rattle.std.specs.Option.{option_or}
-use Rattle.conditions.specs.Tests.{meets}
-use Rattle.conditions.specs.declared.Test.{Test}
 use Rattle.place.specs.Registers.{apart}
 use Rattle.stage.specs.Books.{Book, Blame, Entry, Questions, Profile, book_of, after, said, used}
 use Rattle.values.specs.declared.requests.Request.{Request}
@@ -42,25 +40,28 @@ joined p q endless = record {
   endless = endless;
 }
 
--- choose: a request that meets the test goes to the first side, any other to the second
-abbrev pub choose_shows : Test → Sides → Entry
-choose_shows t s = record { reach = larger s; answer = λ r. cond (meets t r) (said s.first r) (said s.second r) }
+-- choose: a request that is chosen goes to the first side, any other to the second
+abbrev pub choose_shows : (Request → Bool) → Sides → Entry
+choose_shows chosen s = record { reach = larger s; answer = λ r. cond (chosen r) (said s.first r) (said s.second r) }
 
-abbrev pub choose_next : Test → Sides → Request → Sides
-choose_next t s r = cond (meets t r) (first_on s r) (second_on s r)
+abbrev pub choose_next : (Request → Bool) → Sides → Request → Sides
+choose_next chosen s r = cond (chosen r) (first_on s r) (second_on s r)
 
-abbrev pub choose_book : Test → Book → Book → Book
-choose_book t a b = book_of (choose_shows t) (choose_next t) (sides a b)
+abbrev pub choose_book : (Request → Bool) → Book → Book → Book
+choose_book chosen a b = book_of (choose_shows chosen) (choose_next chosen) (sides a b)
 
-abbrev pub choose_blame : Test → Blame → Blame → Blame
-choose_blame t k l [] = λ r. cond (meets t r) (k [] r) (l [] r)
-choose_blame t k l (r ∷ rs) = choose_blame t (cond (meets t r) (after k r) k) (cond (meets t r) l (after l r)) rs
+abbrev pub choose_blame : (Request → Bool) → Blame → Blame → Blame
+choose_blame chosen k l [] = λ r. cond (chosen r) (k [] r) (l [] r)
+choose_blame chosen k l (r ∷ rs) = choose_blame chosen (cond (chosen r) (after k r) k) (cond (chosen r) l (after l r)) rs
 
-abbrev pub choose_profile : Test → Profile → Profile → Profile
-choose_profile t p q = record {
-  first = choose_book t p.first q.first;
-  first_blame = choose_blame t p.first_blame q.first_blame;
-  questions = joined p.questions q.questions (λ r. cond (meets t r) (p.questions.endless r) (q.questions.endless r));
+abbrev pub choose_questions : (Request → Bool) → Questions → Questions → Questions
+choose_questions chosen p q = joined p q (λ r. cond (chosen r) (p.endless r) (q.endless r))
+
+abbrev pub choose_profile : (Request → Bool) → Profile → Profile → Profile
+choose_profile chosen p q = record {
+  first = choose_book chosen p.first q.first;
+  first_blame = choose_blame chosen p.first_blame q.first_blame;
+  questions = choose_questions chosen p.questions q.questions;
 }
 
 -- over: only what the first side refuses goes to the second
@@ -78,9 +79,12 @@ abbrev pub over_blame : Book → Blame → Blame
 over_blame a l [] = l []
 over_blame a l (r ∷ rs) = over_blame (after a r) (cond (is_some (said a r)) l (after l r)) rs
 
+abbrev pub over_questions : Questions → Questions → Questions
+over_questions p q = joined p q (λ r. p.endless r || q.endless r)
+
 abbrev pub over_profile : Profile → Profile → Profile
 over_profile p q = record {
   first = over_book p.first q.first;
   first_blame = over_blame p.first q.first_blame;
-  questions = joined p.questions q.questions (λ r. p.questions.endless r || q.questions.endless r);
+  questions = over_questions p.questions q.questions;
 }

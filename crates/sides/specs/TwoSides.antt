@@ -6,7 +6,7 @@ use Rattle.std.specs.List.{AllByRecursion}
 use Rattle.place.proofs.Apart.{registers_apart, register_block_apart, block_register_apart, apart_by_pieces}
 use Rattle.values.proofs.Rounding.{at_least_one}
 use Rattle.place.proofs.Sets.{union_left, union_right, union_cases, apart_differ}
-use Rattle.place.specs.Pieces.{Apart, PlacesApart, pieces}
+use Rattle.place.specs.Pieces.{Apart, PlacesApart, pieces, Below}
 use Rattle.place.specs.Registers.{apart}
 use Rattle.place.specs.declared.pieces.Piece.{Piece}
 use Rattle.place.specs.declared.pieces.Piece.TheVariants.{Register, Block}
@@ -14,7 +14,7 @@ use Rattle.place.specs.declared.pieces.Place.{Place}
 use Rattle.values.specs.declared.requests.Request.{Request}
 use Rattle.stage.proofs.Runs.{along, Always, always_after, always_past, Spares, SparesNow, spares_after, Given, given, lifted}
 use Rattle.stage.specs.Books.{Book, Entry, Questions, book_of, said, used, after, past}
-use Rattle.stage.specs.Lawful.{InSet, Below, Granted, LawfulHere, Lawful}
+use Rattle.stage.specs.Lawful.{InSet, Granted, LawfulHere, Lawful}
 use Rattle.sides.specs.Sides.{Sides, sides, larger, joined, sound_together}
 
 all_both : (P Q : Piece → Type 0) (xs : List Piece) → AllByRecursion P xs → AllByRecursion Q xs → AllByRecursion (λ x. P x × Q x) xs

@@ -1,6 +1,6 @@
 // Two stages, and a test that says which of them gets a request.
-ghost use Rattle.std.specs.Prelude.{◌≡◌};
-ghost use Rattle.stage.specs.Clearing.{IsClearedOf};
+ghost use Rattle.conditions.specs.Tests.{meets};
+ghost use Rattle.stage.specs.Clearing.{Begins};
 ghost use Rattle.sides.specs.Sides.{choose_book, choose_blame, choose_profile};
 ghost use Rattle.sides.specs.Layers.{choose_lawful};
 
@@ -19,9 +19,8 @@ pub struct Choose<A, B> {
 
 impl<A: Stage, B: Stage> Choose<A, B> {
     pub fn new(test: Test, first: A, second: B) -> Choose<A, B>
-        ensures chooses_by_the_test { result.test ≡ test }
-        ensures first_is_cleared { IsClearedOf A.Stage result.sides.first first }
-        ensures second_is_cleared { IsClearedOf B.Stage result.sides.second second }
+        ensures means_choose { Begins ⟦<Choose<A, B> as Stage>⟧
+            (choose_profile (meets test) (A.Stage.profile first) (B.Stage.profile second)) result }
     {
         Choose {
             test,
@@ -31,13 +30,13 @@ impl<A: Stage, B: Stage> Choose<A, B> {
 }
 
 impl<A: Stage, B: Stage> Stage for Choose<A, B> {
-    ghost book = { λ s. choose_book s.test (A.Stage.book s.sides.first) (B.Stage.book s.sides.second) };
+    ghost book = { λ s. choose_book (meets s.test) (A.Stage.book s.sides.first) (B.Stage.book s.sides.second) };
 
-    ghost blame = { λ s. choose_blame s.test (A.Stage.blame s.sides.first) (B.Stage.blame s.sides.second) };
+    ghost blame = { λ s. choose_blame (meets s.test) (A.Stage.blame s.sides.first) (B.Stage.blame s.sides.second) };
 
-    ghost profile = { λ s. choose_profile s.test (A.Stage.profile s.sides.first) (B.Stage.profile s.sides.second) };
+    ghost profile = { λ s. choose_profile (meets s.test) (A.Stage.profile s.sides.first) (B.Stage.profile s.sides.second) };
 
-    ghost lawful = { λ s. choose_lawful s.test _ _ _ _ (A.Stage.lawful s.sides.first) (B.Stage.lawful s.sides.second) };
+    ghost lawful = { λ s. choose_lawful (meets s.test) _ _ _ _ (A.Stage.lawful s.sides.first) (B.Stage.lawful s.sides.second) };
 
     fn place(&mut self, request: Request) -> Result<Place, Refusal> {
         if self.test.meets(request) {

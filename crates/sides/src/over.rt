@@ -1,6 +1,5 @@
 // A stage in front of another, which gets only what the first refuses.
-ghost use Rattle.std.specs.Prelude.{◌≡◌};
-ghost use Rattle.stage.specs.Clearing.{IsClearedOf};
+ghost use Rattle.stage.specs.Clearing.{Begins};
 ghost use Rattle.sides.specs.Sides.{over_book, over_blame, over_profile};
 ghost use Rattle.sides.specs.Layers.{over_lawful};
 
@@ -17,8 +16,8 @@ pub struct Over<A, B> {
 
 impl<A: Stage, B: Stage> Over<A, B> {
     pub fn new(first: A, second: B) -> Over<A, B>
-        ensures first_is_cleared { IsClearedOf A.Stage result.sides.first first }
-        ensures second_is_cleared { IsClearedOf B.Stage result.sides.second second }
+        ensures means_over { Begins ⟦<Over<A, B> as Stage>⟧
+            (over_profile (A.Stage.profile first) (B.Stage.profile second)) result }
     {
         Over {
             sides: Pair::new(first, second),

@@ -1,7 +1,7 @@
 // What two stages side by side have in common, whichever of them a request goes to.
 ghost use Rattle.std.specs.Prelude.{◌≡◌, max, ◌||◌, bit_or};
 ghost use Rattle.stage.specs.Books.{used};
-ghost use Rattle.stage.specs.Clearing.{IsClearedOf};
+ghost use Rattle.stage.specs.Clearing.{Begins};
 ghost use Rattle.sides.specs.Sides.{sound_together};
 
 use place::registers::RegisterSet;
@@ -16,8 +16,8 @@ pub(crate) struct Pair<A, B> {
 impl<A: Stage, B: Stage> Pair<A, B> {
     // Two stages, both cleared.
     pub(crate) fn new(first: A, second: B) -> Pair<A, B>
-        ensures first_is_cleared { IsClearedOf A.Stage result.first first }
-        ensures second_is_cleared { IsClearedOf B.Stage result.second second }
+        ensures first_is_cleared { Begins A.Stage (A.Stage.profile first) result.first }
+        ensures second_is_cleared { Begins B.Stage (B.Stage.profile second) result.second }
     {
         Pair {
             first: first.cleared(),
@@ -26,8 +26,8 @@ impl<A: Stage, B: Stage> Pair<A, B> {
     }
 
     pub(crate) fn clear(&mut self)
-        ensures first_is_cleared { IsClearedOf A.Stage self.new.first self.old.first }
-        ensures second_is_cleared { IsClearedOf B.Stage self.new.second self.old.second }
+        ensures first_is_cleared { Begins A.Stage (A.Stage.profile self.old.first) self.new.first }
+        ensures second_is_cleared { Begins B.Stage (B.Stage.profile self.old.second) self.new.second }
     {
         self.first.clear();
         self.second.clear();

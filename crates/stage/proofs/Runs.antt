@@ -1,14 +1,14 @@
 -- What holds of a book along every list of requests.
 use Rattle.std.proofs.Common.{◌≡◌, ℕ, ◌≤◌, true, false, List, [], ◌∷◌, Some, arith}
 use Rattle.std.proofs.ByRecursion.{All-weaker}
-use Rattle.place.specs.Pieces.{PlacesApart, pieces}
+use Rattle.place.specs.Pieces.{PlacesApart, pieces, Below}
 use Rattle.place.specs.Registers.{has}
 use Rattle.place.specs.declared.pieces.Piece.{Piece}
 use Rattle.place.specs.declared.pieces.Piece.TheVariants.{Register, Block}
 use Rattle.place.specs.declared.pieces.Place.{Place}
 use Rattle.values.specs.declared.requests.Request.{Request}
 use Rattle.stage.specs.Books.{Book, Entry, Questions, book_of, said, used, after, past}
-use Rattle.stage.specs.Lawful.{InSet, Below, Granted, LawfulHere}
+use Rattle.stage.specs.Lawful.{InSet, Granted, LawfulHere}
 
 -- a fact Q of the books of states, where a fact P of the states is kept
 pub along : {S : Type 0} (shows : S → Entry) (next : S → Request → S) (P : S → Type 0)

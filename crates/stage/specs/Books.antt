@@ -68,3 +68,8 @@ pub record Cleared (b : Book) (lines : Blame) (p before : Profile) : Type 0 wher
   pub first_book_is_back : b ≡ before.first
   pub first_blame_is_back : lines ≡ before.first_blame
   pub profile_stays : p ≡ before
+
+-- stages with equal first books and equal answers to questions: they differ at most in the lines that they blame
+pub record Alike (p q : Profile) : Type 0 where
+  pub equal_first_books : p.first ≡ q.first
+  pub equal_answers_to_questions : p.questions ≡ q.questions

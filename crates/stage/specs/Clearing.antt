@@ -1,7 +1,7 @@
--- Stages that were cleared.
-use Rattle.stage.specs.Books.{Cleared}
+-- Stages at their beginning.
+use Rattle.stage.specs.Books.{Cleared, Profile}
 use Rattle.stage.specs.declared.Stage.{Ghosts}
 
--- what a stage became when it was cleared, by its ghost members
-abbrev pub IsClearedOf : {S : Type 0} → Ghosts S → S → S → Type 0
-IsClearedOf g new old = Cleared (g.book new) (g.blame new) (g.profile new) (g.profile old)
+-- a stage, seen by its ghost members, that has this profile and is at its beginning
+abbrev pub Begins : {S : Type 0} → Ghosts S → Profile → S → Type 0
+Begins g p s = Cleared (g.book s) (g.blame s) (g.profile s) p

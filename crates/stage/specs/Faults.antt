@@ -1,16 +1,12 @@
--- The faults of a stage's parameters, by number and position.
+-- The faults of a stage's parameters.
 use Rattle.std.specs.Prelude.{ℕ, cond, ◌||◌, Some, None, Ok, Err, Option, Result, ◌==◌}
+pub use Rattle.origins.specs.Faults.{Fault}
 use Rattle.stage.specs.declared.ParameterFault.{ParameterFault}
 use Rattle.stage.specs.declared.ParameterFault.TheVariants.{Form, Range}
 
--- a fault's number, and the line where it is
-pub record Fault : Type 0 where
-  pub number : ℕ
-  pub position : ℕ
-
--- a fault of a built-in stage, which has no line
+-- a fault of what a stage is made of, at no line: a built-in stage has none
 abbrev pub unplaced : ℕ → Fault
-unplaced n = record { number = n; position = 0 }
+unplaced n = record { layer = 1; number = n; position = 0 }
 
 -- the numbers that a description's line would get
 abbrev pub parameter_fault : ParameterFault → Fault

@@ -1,7 +1,7 @@
 -- The five facts that every stage shows, for every list of requests on its first book.
 use Rattle.std.specs.Prelude.{◌≡◌, ℕ, ◌+◌, ◌%◌, ◌≤◌, true, false, List, is_some, Some}
 use Rattle.std.specs.List.{AllByRecursion}
-use Rattle.place.specs.Pieces.{pieces, low_piece, place_width, WellFormed, PiecesApart, PlacesApart}
+use Rattle.place.specs.Pieces.{pieces, low_piece, place_width, Below, WellFormed, PiecesApart, PlacesApart}
 use Rattle.place.specs.Registers.{has}
 use Rattle.values.specs.Sizes.{bytes}
 use Rattle.place.specs.declared.pieces.Piece.{Piece}
@@ -14,11 +14,6 @@ use Rattle.stage.specs.Books.{Book, Questions, said, used, after, past}
 abbrev pub InSet : ℕ → Piece → Type 0
 InSet set (Register x) = has set x ≡ true
 InSet set (Block o w) = Unit {0}
-
--- block bytes that all lie below n
-abbrev pub Below : ℕ → Piece → Type 0
-Below n (Register x) = Unit {0}
-Below n (Block o w) = o + bytes w ≤ n
 
 -- in the block, at a multiple of a
 abbrev pub Aligned : ℕ → Piece → Type 0

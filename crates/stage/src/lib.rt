@@ -1,14 +1,16 @@
 // The interface of every stage: an allocator that answers requests with places.
 #![tactic(auto)]
 
-ghost use Rattle.std.specs.Prelude.{◌≡◌, [], IfOk, IfErr, Some, decimal};
+ghost use Rattle.std.specs.Prelude.{◌≡◌, [], IfOk, IfErr, Some};
 ghost use Rattle.std.specs.Result.{result_ok};
-ghost use Rattle.values.specs.Sizes.{bytes};
+ghost use Rattle.values.specs.Sizes.{HasBytes};
+ghost use Rattle.origins.specs.Faults.{fault_from, fault_text};
 ghost use Rattle.stage.specs.Books.{Book, Blame, Profile, Cleared, said, used, after};
 ghost use Rattle.stage.specs.Faults.{fault_of, parameter_fault, width_fault};
 ghost use Rattle.stage.specs.Lawful.{Lawful};
 ghost use Rattle.stage.specs.declared.ParameterFault.TheVariants.{Range};
 
+use origins::{Layer, Origin};
 use place::pieces::Place;
 use place::registers::RegisterSet;
 use std::error::Error;
@@ -33,16 +35,30 @@ pub enum ParameterFault {
     Range,
 }
 
-// Its number.
-impl fmt::Display for ParameterFault {
-    ghost output = { λ f. Some (decimal (parameter_fault f).number) };
-
-    fn fmt<W: fmt::Write>(&self, f: &mut fmt::Formatter<W>) -> fmt::Result {
-        let number: u8 = match self {
+impl ParameterFault {
+    // At no line.
+    pub fn origin(self) -> Origin
+        ensures its_layer_number_and_position { fault_from result ≡ parameter_fault self }
+    {
+        let number = match self {
             ParameterFault::Form => 2,
             ParameterFault::Range => 3,
         };
-        write!(f, "{number}")
+        Origin {
+            layer: Layer::Texts,
+            number,
+            position: 0,
+        }
+    }
+}
+
+impl fmt::Display for ParameterFault {
+    ghost output = { λ f. Some (fault_text (parameter_fault f)) };
+
+    ghost styled_output = { λ f _. Some (fault_text (parameter_fault f)) };
+
+    fn fmt<W: fmt::Write>(&self, f: &mut fmt::Formatter<W>) -> fmt::Result {
+        fmt::Display::fmt(&self.origin(), f)
     }
 }
 
@@ -61,7 +77,7 @@ impl From<Unknown> for ParameterFault {
 // that is no such size is refused.
 pub fn raised_size(n: u8) -> Result<Size, ParameterFault>
     ensures refused_unless_2_4_or_8 { fault_of result ≡ width_fault n }
-    ensures of_n_bytes { IfOk result (λ s. bytes s ≡ n) }
+    ensures of_n_bytes { IfOk result (HasBytes n) }
 {
     match Size::try_from(n)? {
         Size::One => Err(ParameterFault::Range),

@@ -1,6 +1,5 @@
-// Tables of cases for the stages, and a bottom that is none of ours.
+// Tables of cases for the stages.
 #![tactic(auto)]
 
-pub mod never;
 #[cfg(test)]
 mod placing;

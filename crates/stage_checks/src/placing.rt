@@ -1,10 +1,11 @@
 // Where the built-in piles place values, and which stages can be made: expected values are worked out by hand.
-use crate::never::Never;
 use adjust::Adjust;
 use banks::bits::Bits;
 use banks::count::Count;
 use blocks::up::Up;
 use conditions::Test;
+use foreign_bottoms::never::Never;
+use foreign_bottoms::two_registers::TwoRegisters;
 use shut::Shut;
 use sides::choose::Choose;
 use sides::over::Over;
@@ -198,6 +199,21 @@ fn chosen_by_width_or_never(rt: HostRuntime) -> Result<(), Fail> {
 }
 
 #[test]
+fn a_bottom_of_a_client_in_front_of_the_block(rt: HostRuntime) -> Result<(), Fail> {
+    let heap = rt.alloc();
+    let mut pile = Over::new(TwoRegisters::new(), Up::new(8)?);
+    let table = [
+        ("u4", "r0"),
+        ("u8", "+0/4 +4/4"),
+        ("f4", "r1"),
+        ("a4", "+8/4"),
+    ];
+    places(&rt, heap, &mut pile, &table, 12)?;
+    pile.clear();
+    places(&rt, heap, &mut pile, &[("s4", "r0"), ("u1", "+0/1")], 1)
+}
+
+#[test]
 fn soundness(rt: HostRuntime) -> Result<(), Fail> {
     let common = Over::new(Count::new(&[0])?, Bits::new(&[0, 1])?);
     assert!(rt; !common.sound(), "r0 is in both sets");
@@ -223,7 +239,10 @@ fn endlessness(rt: HostRuntime) -> Result<(), Fail> {
 fn fault<T: Drop>(heap: Global, made: Result<T, ParameterFault>) -> Result<String, AllocError> {
     match made {
         Ok(_) => String::from_str(heap, "made"),
-        Err(f) => format!(in heap; "{f}"),
+        Err(f) => {
+            let number = f.origin().number;
+            format!(in heap; "{number}")
+        }
     }
 }
 

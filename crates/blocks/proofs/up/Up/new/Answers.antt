@@ -1,6 +1,6 @@
-use Rattle.std.proofs.Common.{rules}
+use Rattle.std.proofs.Common.{rules, refl}
 use Rattle.values.specs.declared.sizes.Size.TheVariants.{One, Two, Four, Eight}
-use Rattle.blocks.proofs.Grants.{follow_one_another}
+use Rattle.blocks.proofs.Grants.{gives_upward}
 use Rattle.blocks.proofs.up.Up.new.Goals as goal
 
 -- a limit that is no size's number of bytes
@@ -12,5 +12,5 @@ returns-in_err-limit-clause-refused_unless_1_2_4_or_8 c =
     let eight = c.in_err-limit.ensures Eight in
     search rules
 
-pub returns-clause-places_follow_one_another : goal.returns-clause-places_follow_one_another
-returns-clause-places_follow_one_another c = follow_one_another _
+pub returns-clause-gives_upward : goal.returns-clause-gives_upward
+returns-clause-gives_upward c = gives_upward _ _ _ c.in_ok-limit.ensures refl

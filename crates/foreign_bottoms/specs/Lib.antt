@@ -1,0 +1,4 @@
+pub mod Never
+pub mod NeverStageLemmas
+pub mod TwoRegisters
+pub mod TwoRegistersLemmas
