@@ -13,7 +13,7 @@ use Rattle.allocation.specs.declared.faults.PlacementFault.{PlacementFault}
 
 fault_decides : (a b : PlacementFault) → Decides (FaultEq.eq-value.it a b) (placement_fault a ≡ placement_fault b)
 fault_decides a b =
-    decides_two (λ (n p : ℕ). let f : Fault = record { number = n; position = p } in f) (cause_number a.cause) (cause_number b.cause) a.position b.position
+    decides_two (λ (n p : ℕ). let f : Fault = record { layer = 2; number = n; position = p } in f) (cause_number a.cause) (cause_number b.cause) a.position b.position
     (cause_number a.cause == cause_number b.cause) (a.position == b.position)
     (λ e. (ap (λ (f : Fault). f.number) e, ap (λ (f : Fault). f.position) e))
     (unsigned_Decides (cause_number a.cause) (cause_number b.cause)) (unsigned_Decides a.position b.position)

@@ -15,7 +15,7 @@ cause_number (Refused f) = 24
 
 -- a fault is its number and its position; the line of a refusal is no part of it
 abbrev pub placement_fault : PlacementFault → Fault
-placement_fault f = record { number = cause_number f.cause; position = f.position }
+placement_fault f = record { layer = 2; number = cause_number f.cause; position = f.position }
 
 -- a place, or a fault
 abbrev pub Answer : Type 0

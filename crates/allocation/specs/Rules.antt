@@ -49,7 +49,7 @@ admitted (Err c) = Err (cause_number c)
 
 -- a refusal has the number of places held as its position
 abbrev pub refusal : State → ℕ → Answer
-refusal s n = Err (record { number = n; position = length s.held })
+refusal s n = Err (record { layer = 2; number = n; position = length s.held })
 
 -- what the pile gives, or 24
 abbrev pub pile_answer : State → Option Place → Answer

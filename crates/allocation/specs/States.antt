@@ -1,5 +1,5 @@
 -- What an allocation is.
-use Rattle.std.specs.Prelude.{Bool, ◌&&◌, List, [], map}
+use Rattle.std.specs.Prelude.{◌≡◌, Bool, false, ◌&&◌, List, [], map}
 use Rattle.values.specs.Types.{own_request}
 use Rattle.values.specs.declared.value_type.ValueType.{ValueType}
 use Rattle.place.specs.Holdings.{Holding}
@@ -35,3 +35,7 @@ opened p = record { profile = p; book = p.first; blame = p.first_blame; held = [
 -- a type that is always placed: endless at its own alignment, in a sound pile
 abbrev pub always_placed : Questions → ValueType → Bool
 always_placed q t = q.sound && q.endless (own_request t)
+
+-- a pile that calls no type endless at its own alignment
+abbrev pub EndlessForNothing : Questions → Type 0
+EndlessForNothing q = (t : ValueType) → q.endless (own_request t) ≡ false

@@ -1,12 +1,16 @@
 // Why an allocation grants no place.
-ghost use Rattle.std.specs.Prelude.{◌≡◌, ◌==◌, ◌&&◌};
+ghost use Rattle.std.specs.Prelude.{◌≡◌, ◌==◌, ◌&&◌, Some};
 ghost use Rattle.std.specs.Bool.{Decides};
+ghost use Rattle.origins.specs.Faults.{fault_from, fault_text};
 ghost use Rattle.allocation.specs.Faults.{cause_number, placement_fault};
 ghost use Rattle.allocation.specs.declared.faults.Cause.TheVariants.{NotAType, Refused};
 ghost use Rattle.std.specs.Cmp.Rules.{comparing};
 ghost use Rattle.std.proofs.Common.{rules};
 
+use origins::{Layer, Origin};
 use stage::Refusal;
+use std::error::Error;
+use std::fmt;
 use values::unknown::Unknown;
 
 #[derive(Clone, Copy, PartialEq, Eq, Debug)]
@@ -57,6 +61,40 @@ impl Cause {
         }
     }
 }
+
+// A cause, and the number of places held.
+impl From<(Cause, usize)> for PlacementFault {
+    ghost from_gives = { λ c f. f ≡ record { cause = c.0; position = c.1 } };
+
+    fn from((cause, position): (Cause, usize)) -> PlacementFault {
+        PlacementFault { cause, position }
+    }
+}
+
+impl PlacementFault {
+    // At the number of places held.
+    pub fn origin(self) -> Origin
+        ensures its_layer_number_and_position { fault_from result ≡ placement_fault self }
+    {
+        Origin {
+            layer: Layer::Placing,
+            number: self.cause.number(),
+            position: self.position,
+        }
+    }
+}
+
+impl fmt::Display for PlacementFault {
+    ghost output = { λ f. Some (fault_text (placement_fault f)) };
+
+    ghost styled_output = { λ f _. Some (fault_text (placement_fault f)) };
+
+    fn fmt<W: fmt::Write>(&self, f: &mut fmt::Formatter<W>) -> fmt::Result {
+        fmt::Display::fmt(&self.origin(), f)
+    }
+}
+
+impl Error for PlacementFault {}
 
 // Not derived, since the line of a refusal is no part of it.
 impl PartialEq for PlacementFault {

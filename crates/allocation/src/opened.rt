@@ -35,9 +35,9 @@ impl<P: Stage> Allocation<P, Placing> {
         table.cleared()
     }
 
-    // What the pile is asked, or the refusal before that, lowest number first.
+    // What the pile is asked, or the refusal before that: the type is tested, then the room, then the pile.
     fn admit(&self, asked: Asked) -> Result<Wanted, Cause>
-        ensures lowest_number_first { admitted result ≡ reaching (state P.Stage self.now) asked }
+        ensures reaches_the_pile_or_is_refused_by_the_first_test_that_fails { admitted result ≡ reaching (state P.Stage self.now) asked }
         ensures admits_below_sixteen { OnOk result (length self.now.held.items < 16) }
         ensures refusals_have_no_line { IfErr result (λ c. cause_line c ≡ None) }
     {
@@ -73,8 +73,10 @@ impl<P: Stage> Allocation<P, Placing> {
         ensures moves_by_the_rules { state P.Stage self.new ≡ placed (state P.Stage self.old) asked }
     {
         let position = self.held.len();
-        self.grant(asked)
-            .map_err(|cause| PlacementFault { cause, position })
+        match self.grant(asked) {
+            Ok(place) => Ok(place),
+            Err(cause) => Err((cause, position))?,
+        }
     }
 
     pub fn freeze(self) -> Frozen<P>

@@ -1,11 +1,15 @@
 // What open and frozen allocations share: a pile, and the places that it granted.
-ghost use Rattle.std.specs.Prelude.{◌≡◌, ◌≤◌, map, length};
+ghost use Rattle.std.specs.Prelude.{◌≡◌, ◌≤◌, [], map, filter, length};
+ghost use Rattle.values.specs.Types.{all_types};
 
 use crate::held::{Held, MOST};
 use arrayvec::ArrayVec;
 use stage::Stage;
 use std::marker::PhantomData;
 use values::value_type::ValueType;
+
+// How many types there are.
+const TYPES: usize = ValueType::ALL.len();
 
 // A pile in use; S says whether it places or is frozen. Contracts see it by the definition `state` and not by a model,
 // since a model's value has no room for a function, and a book is one.
@@ -17,7 +21,7 @@ pub struct Allocation<P, S> {
 }
 
 impl<P: Stage, S> Allocation<P, S> {
-    ghost use Rattle.allocation.specs.States.{state, holding, opened, always_placed};
+    ghost use Rattle.allocation.specs.States.{state, holding, opened, always_placed, EndlessForNothing};
 
     // With its pile cleared, and nothing held.
     pub(crate) fn cleared<T>(self) -> Allocation<P, T>
@@ -41,6 +45,20 @@ impl<P: Stage, S> Allocation<P, S> {
         ensures endless_at_its_own_alignment_in_a_sound_pile { result ≡ always_placed (state P.Stage self.now).profile.questions value }
     {
         self.pile.sound() & self.pile.endless(value.request())
+    }
+
+    // Each type that is always placed, in the order of `ValueType::ALL`.
+    pub fn report(&self) -> ArrayVec<ValueType, TYPES>
+        ensures the_types_always_placed_in_their_order { result.items ≡ filter (always_placed (state P.Stage self.now).profile.questions) all_types }
+        ensures empty_where_nothing_is_endless { EndlessForNothing (state P.Stage self.now).profile.questions → result.items ≡ [] }
+    {
+        let mut placed = ArrayVec::new();
+        for value in ValueType::all() {
+            if self.always_places(value) {
+                placed.push(value);
+            }
+        }
+        placed
     }
 
     // The places granted since it was opened or last reopened, in order.

@@ -11,10 +11,13 @@ mod tests {
     use banks::bits::Bits;
     use banks::count::Count;
     use blocks::up::Up;
+    use foreign_bottoms::never::Never;
+    use foreign_bottoms::two_registers::TwoRegisters;
     use place::pieces::{Piece, Place};
     use shut::Shut;
     use sides::over::Over;
     use stage::{ParameterFault, Stage};
+    use std::process::Abort;
     use std::test::Fail;
     use values::kinds::Kind;
     use values::value_type::ValueType;
@@ -123,20 +126,53 @@ mod tests {
         Ok(())
     }
 
+    // The report names these types, in this order, and so it does once the allocation is frozen.
+    fn reports<P: Stage + Drop>(rt: &impl Abort, pile: P, words: &[&str]) -> Result<(), Fail> {
+        let mut open = Open::new(pile);
+        let _ = open.place(Asked::aligned(Kind::Unsigned, 4));
+        let before = open.report();
+        let after = open.freeze().report();
+        assert_eq!(rt; (before.len(), after.len()), (words.len(), words.len()));
+        for ((value, again), word) in before.iter().zip(after.iter()).zip(words) {
+            let expected = ValueType::try_from(word.as_bytes())?;
+            assert_eq!(rt; (*value, *again), (expected, expected));
+        }
+        Ok(())
+    }
+
     #[test]
     fn the_report(rt: HostRuntime) -> Result<(), Fail> {
-        let pile = Open::new(Adjust::widen(4, Over::new(Bits::new(&[0, 1])?, Up::new(4)?))?);
-        let table = [
-            (b"u1", true),
-            (b"s4", true),
-            (b"a4", true),
-            (b"f8", false),
-            (b"u8", false),
+        let all = [
+            "u1", "u2", "u4", "u8", "s1", "s2", "s4", "s8", "f4", "f8", "a4",
         ];
-        for (word, expected) in table {
-            let value = ValueType::try_from(word.as_slice())?;
-            assert_eq!(rt; pile.always_places(value), expected);
+        reports(&rt, Up::new(8)?, &all)?;
+        reports(&rt, Up::new(2)?, &["u1", "u2", "s1", "s2"])?;
+        let wide = Adjust::widen(4, Over::new(Bits::new(&[0, 1])?, Up::new(4)?))?;
+        let most = ["u1", "u2", "u4", "s1", "s2", "s4", "f4", "a4"];
+        reports(&rt, wide, &most)
+    }
+
+    #[test]
+    fn an_empty_report(rt: HostRuntime) -> Result<(), Fail> {
+        // Endless for nothing.
+        reports(&rt, Never {}, &[])?;
+        reports(&rt, TwoRegisters::new(), &[])?;
+        reports(&rt, Shut::new(Up::new(8)?), &[])?;
+        reports(&rt, Adjust::raise(8, Up::new(4)?)?, &[])?;
+        // Endless for every type, and not sound.
+        reports(&rt, Over::new(Up::new(8)?, Up::new(8)?), &[])
+    }
+
+    #[test]
+    fn a_bottom_that_refuses_all_gives_24(rt: HostRuntime) -> Result<(), Fail> {
+        let mut open = Open::new(Never {});
+        for width in [1, 2, 4, 8] {
+            assert_eq!(rt;
+                fault(open.place(Asked::aligned(Kind::Unsigned, width))),
+                Some((24, 0))
+            );
         }
+        assert_eq!(rt; open.held().len(), 0);
         Ok(())
     }
 }

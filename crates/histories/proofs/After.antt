@@ -1,27 +1,38 @@
--- A lawful pile's allocation is lawful after every history.
-use Rattle.std.proofs.Common.{◌≤◌, ◌++◌, map, length, sym, ap, ◌∙◌, subst, arith}
+-- A lawful pile's allocation is lawful after every past.
+use Rattle.std.proofs.Common.{List, map, sym, subst, arith}
+use Rattle.place.specs.Pieces.{EachApart}
 use Rattle.stage.specs.Books.{Profile}
 use Rattle.stage.specs.Lawful.{Lawful}
-use Rattle.allocation.specs.States.{State}
+use Rattle.allocation.specs.States.{opened}
+use Rattle.allocation.specs.declared.asked.Asked.{Asked}
 use Rattle.histories.proofs.Granting.{Good, newly_good, good_all, wide, aligned, apart, held_grants, places_held, few, refused_only_when_full}
-use Rattle.histories.proofs.Rounds.{rounds_leave_nothing}
-use Rattle.histories.specs.Histories.{History, as_held, grants, placed_all, reopened, played}
-use Rattle.histories.specs.Laws.{EachApart, LawfulAllocation}
+use Rattle.histories.proofs.Leaving.{rest_is_forgotten}
+use Rattle.histories.specs.Events.{Used, requests_since, after_past}
+use Rattle.histories.specs.Histories.{grants, placed_all}
+use Rattle.histories.specs.Laws.{LawfulAllocation, LawfulAtEveryMoment}
 
-pub lawful_after : (p : Profile) (h : History) → Lawful p.questions p.first → LawfulAllocation p h (played p h)
-lawful_after p h l =
-    let start = reopened p h in
-    let fresh = rounds_leave_nothing h.rounds p in
-    let good : Good p start = subst (Good p) (sym fresh) (newly_good p l) in
-    let empty = ap (λ (s : State). s.held) fresh in
-    let room : length start.held ≤ 16 = omega (arith, ap length empty) in
-    let gs = grants start h.since in
-    let held = held_grants h.since start ∙ ap (λ xs. xs ++ map as_held gs) empty in
+-- what a newly opened allocation holds for these requests shares no byte
+pub placed_apart : (p : Profile) (qs : List Asked) → Lawful p.questions p.first → EachApart (map (λ x. x.place) (placed_all (opened p) qs).held)
+placed_apart p qs l =
+    let start = opened p in
+    subst (λ xs. EachApart (map (λ x. x.place) xs)) (sym (held_grants qs start)) (subst EachApart (sym (places_held (grants start qs))) (apart p qs start (newly_good p l)))
+
+newly_placed : (u : Used) → Lawful u.profile.questions u.profile.first → LawfulAllocation u (placed_all (opened u.profile) (requests_since u.past))
+newly_placed u l =
+    let p = u.profile in
+    let qs = requests_since u.past in
+    let start = opened p in
+    let good : Good p start = newly_good p l in
     record {
-      held_places_are_those_granted_since = held;
-      held_places_share_no_byte = subst (λ xs. EachApart (map (λ x. x.place) xs)) (sym held) (subst EachApart (sym (places_held gs)) (apart p h.since start good));
-      held_places_are_as_wide_as_requested_or_wider = wide p h.since start good;
-      held_places_are_aligned_in_the_block = aligned p h.since start good;
-      a_type_always_placed_is_refused_only_past_4088_or_at_sixteen = λ before later e t.
-          refused_only_when_full p (placed_all start before) (good_all p before start good) (few before start room) t;
+      held_places_are_those_granted_since = held_grants qs start;
+      held_places_share_no_byte = placed_apart p qs l;
+      held_places_are_as_wide_as_requested_or_wider = wide p qs start good;
+      held_places_are_aligned_in_the_block = aligned p qs start good;
+      a_type_always_placed_is_refused_only_past_4088_or_at_sixteen = refused_only_when_full p (placed_all start qs) (good_all p qs start good) (few qs start (omega arith));
     }
+
+pub lawful_after : (u : Used) → Lawful u.profile.questions u.profile.first → LawfulAllocation u (after_past u)
+lawful_after u l = subst (LawfulAllocation u) (sym (rest_is_forgotten u.past u.profile)) (newly_placed u l)
+
+pub lawful_ever : (u : Used) → Lawful u.profile.questions u.profile.first → LawfulAtEveryMoment u
+lawful_ever u l before later e = lawful_after (record { profile = u.profile; past = before }) l

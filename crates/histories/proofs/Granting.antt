@@ -8,7 +8,7 @@ use Rattle.std.specs.List.{AllByRecursion}
 use Rattle.values.specs.Types.{own_request}
 use Rattle.values.specs.declared.requests.Request.{Request}
 use Rattle.values.specs.declared.value_type.ValueType.{ValueType}
-use Rattle.place.specs.Pieces.{PlacesApart}
+use Rattle.place.specs.Pieces.{PlacesApart, EachApart}
 use Rattle.place.specs.declared.pieces.Place.{Place}
 use Rattle.stage.proofs.Runs.{Always, always_after, Spares, spares_after}
 use Rattle.stage.specs.Books.{Profile, said, used}
@@ -18,7 +18,7 @@ use Rattle.place.specs.Holdings.{Holding}
 use Rattle.allocation.specs.States.{State, opened, always_placed}
 use Rattle.allocation.specs.Rules.{request_in, request_of, reaching_with, reaching, answer_for, pile_answer, holding_for, placed_by, place_answer, placed}
 use Rattle.histories.specs.Histories.{Grant, grant, as_held, grant_by, grants, placed_all}
-use Rattle.histories.specs.Laws.{asked_for, EachApart, WideEnough, AlignedAsRequested, RefusedOnlyWhenFull}
+use Rattle.histories.specs.Laws.{asked_for, WideEnough, AlignedAsRequested, RefusedOnlyWhenFull}
 use Rattle.allocation.specs.declared.asked.Asked.{Asked}
 
 -- what is known of a request that reached the pile

@@ -1,5 +1,6 @@
-pub mod Rounds
+pub mod Leaving
 pub mod Granting
 pub mod After
-pub mod Turns
 pub mod Twins
+pub mod Hearing
+pub mod Recorded

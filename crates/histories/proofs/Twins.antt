@@ -3,13 +3,14 @@ use Rattle.std.proofs.Common.{◌≡◌, ℕ, List, [], ◌∷◌, ◌++◌, len
 use Rattle.std.specs.Option.{option_map, option_to_list}
 use Rattle.values.specs.declared.requests.Request.{Request}
 use Rattle.place.specs.declared.pieces.Place.{Place}
-use Rattle.stage.specs.Books.{Book, Profile, Questions, said, after}
+use Rattle.stage.specs.Books.{Alike, Book, Profile, Questions, said, after}
 use Rattle.place.specs.Holdings.{Holding}
 use Rattle.allocation.specs.States.{State, opened}
 use Rattle.allocation.specs.Rules.{request_of, reaching_with, reaching, answer_for, pile_answer, holding_for, placed_by, placed, place_answer}
-use Rattle.histories.proofs.Rounds.{rounds_leave_nothing}
+use Rattle.histories.proofs.Leaving.{rest_is_forgotten}
+use Rattle.histories.specs.Events.{requests_since}
 use Rattle.histories.specs.Histories.{placed_all, answers}
-use Rattle.histories.specs.Laws.{Alike, EqualRequestsGetEqualAnswers}
+use Rattle.histories.specs.Laws.{EqualRequestsGetEqualAnswers}
 use Rattle.allocation.specs.declared.asked.Asked.{Asked}
 
 pub record Twins (s z : State) : Type 0 where
@@ -22,11 +23,11 @@ module _ (s z : State) (w : Twins s z) where
   reach_alike o = ap (λ (h : List Holding). reaching_with (length h) s.profile.questions.sound o) w.held ∙ ap (λ b. reaching_with (length z.held) b o) w.sound
 
   refusal_alike : (o : Option Place) → pile_answer s o ≡ pile_answer z o
-  refusal_alike None = ap (λ (h : List Holding). Err (record { number = 24; position = length h })) w.held
+  refusal_alike None = ap (λ (h : List Holding). Err (record { layer = 2; number = 24; position = length h })) w.held
   refusal_alike (Some p) = refl
 
   answer_alike : (t : Result Request ℕ) → answer_for s t ≡ answer_for z t
-  answer_alike (Err n) = ap (λ (h : List Holding). Err (record { number = n; position = length h })) w.held
+  answer_alike (Err n) = ap (λ (h : List Holding). Err (record { layer = 2; number = n; position = length h })) w.held
   answer_alike (Ok r) = ap (λ (b : Book). pile_answer s (said b r)) w.book ∙ refusal_alike (said z.book r)
 
   twins_by : (t : Result Request ℕ) → Twins (placed_by s t) (placed_by z t)
@@ -62,5 +63,10 @@ newly_twins p q alike = record {
 }
 
 pub equal_answers : (p q : Profile) → EqualRequestsGetEqualAnswers p q
-equal_answers p q alike first second since =
-    ap (λ s. answers s since) (rounds_leave_nothing first p) ∙ answers_alike since (opened p) (opened q) (newly_twins p q alike) ∙ sym (ap (λ s. answers s since) (rounds_leave_nothing second q))
+equal_answers p q alike first second same next =
+    let one = rest_is_forgotten first p ∙ ap (placed_all (opened p)) same in
+    let two = rest_is_forgotten second q in
+    let since = requests_since second in
+    ap (λ s. answers s next) one
+    ∙ answers_alike next (placed_all (opened p) since) (placed_all (opened q) since) (twins_all since (opened p) (opened q) (newly_twins p q alike))
+    ∙ sym (ap (λ s. answers s next) two)

@@ -1,2 +1,5 @@
+pub mod Heard
+pub mod Events
 pub mod Histories
 pub mod Laws
+pub mod Recording

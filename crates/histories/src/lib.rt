@@ -1,4 +1,6 @@
-// Histories of allocations: rounds of placing, each frozen and reopened, and the requests since.
+// Histories of allocations: what the types let come to one, what it is answered, and what holds of it ever after.
 #![tactic(auto)]
 
+pub mod events;
+pub mod listeners;
 pub mod plays;

@@ -1,59 +1,115 @@
-// Histories, played.
-ghost use Rattle.std.specs.Prelude.{◌≡◌, true, Decides};
-ghost use Rattle.allocation.specs.States.{state};
-ghost use Rattle.histories.specs.Histories.{History, placed_all, history, played, answers_in};
-ghost use Rattle.histories.specs.Laws.{LawfulAllocation, Alike, EqualRequestsGetEqualAnswers};
+// Pasts of allocations, played.
+ghost use Rattle.std.specs.Prelude.{◌≡◌, ◌≤◌, ◌↔◌, IsTrue, map, length, Some};
+ghost use Rattle.std.specs.Option.{option_map};
+ghost use Rattle.std.specs.List.{FoldsTo};
+ghost use Rattle.allocation.specs.States.{state, opened};
+ghost use Rattle.stage.specs.Books.{Alike};
+ghost use Rattle.histories.specs.Heard.{heard_of};
+ghost use Rattle.histories.specs.Events.{becomes, answers_at, told, places, used_of, after_past, answers_of_past, reopened_for};
+ghost use Rattle.histories.specs.Histories.{answers};
+ghost use Rattle.histories.specs.Laws.{LawfulAtEveryMoment, LawfulAfterEveryPast, EqualRequestsGetEqualAnswers};
 
-use allocation::answers::same_answer;
+use crate::events::{Event, UsedPile};
+use crate::listeners::{Listener, Record};
+use allocation::answers::{Answer, same_answer};
 use allocation::asked::Asked;
 use allocation::opened::Open;
+use arrayvec::ArrayVec;
 use stage::Stage;
 
-// Places each in turn, whatever the answers.
-fn place_each<P: Stage>(allocation: &mut Open<P>, since: &[Asked])
-    ensures placed_in_turn { state P.Stage allocation.new ≡ placed_all (state P.Stage allocation.old) since.now }
+fn happen<P: Stage, L: Listener>(mut allocation: Open<P>, event: Event, listener: &mut L) -> Open<P>
+    ensures becomes_by_the_rules { state P.Stage result ≡ becomes (state P.Stage allocation) event }
+    ensures its_answer_is_heard { FoldsTo L.hears listener.old
+        (answers_at (state P.Stage allocation) event) listener.new }
 {
-    for asked in since {
-        let _ = allocation.place(*asked);
+    match event {
+        Event::Place(asked) => {
+            listener.hear(allocation.place(asked));
+            allocation
+        }
+        Event::Reopen => allocation.freeze().reopen(),
     }
 }
 
-// Opens the pile; places, freezes and reopens, round by round; then places what came since. Here and below a pile and what
-// came to it are parameters of their own: a struct of them would be longer at most calls.
-pub fn play<P: Stage>(pile: P, rounds: &[&[Asked]], since: &[Asked]) -> Open<P>
-    ensures plays_the_history { state P.Stage result ≡ played (P.Stage.profile pile) (history rounds.now since.now) }
-    ensures lawful_after_this_history { LawfulAllocation (P.Stage.profile pile) (history rounds.now since.now) (state P.Stage result) }
-    ensures lawful_after_every_history { (h : History) → LawfulAllocation (P.Stage.profile pile) h (played (P.Stage.profile pile) h) }
+// Opens the pile, and lets what came to it come in turn; the listener is told each answer.
+pub fn play<P: Stage, L: Listener>(used: UsedPile<P>, listener: &mut L) -> Open<P>
+    ensures becomes_by_the_rules { state P.Stage result ≡ after_past (used_of P.Stage used.entry) }
+    ensures every_answer_is_heard { FoldsTo L.hears listener.old
+        (answers_of_past (used_of P.Stage used.entry)) listener.new }
+    ensures profile_stays { (state P.Stage result).profile ≡ P.Stage.profile used.entry.pile }
+    ensures lawful_at_every_moment { LawfulAtEveryMoment (used_of P.Stage used.entry) }
+    ensures lawful_after_every_past { LawfulAfterEveryPast (P.Stage.profile used.entry.pile) }
 {
+    let UsedPile { pile, past } = used;
     let mut allocation = Open::new(pile);
-    for round in rounds {
-        place_each(&mut allocation, round);
-        allocation = allocation.freeze().reopen();
+    for event in past {
+        allocation = happen(allocation, *event, listener);
     }
-    place_each(&mut allocation, since);
     allocation
 }
 
-// Whether two piles that went through rounds of their own answer what comes since alike.
-pub fn place_alike<P: Stage + Drop, Q: Stage + Drop>(
-    first: P,
-    first_rounds: &[&[Asked]],
-    second: Q,
-    second_rounds: &[&[Asked]],
-    since: &[Asked],
-) -> bool
-    ensures whether_the_answers_are_equal { Decides result (answers_in (P.Stage.profile first) (history first_rounds.now since.now) ≡ answers_in (Q.Stage.profile second) (history second_rounds.now since.now)) }
-    ensures equal_requests_get_equal_answers { EqualRequestsGetEqualAnswers (P.Stage.profile first) (Q.Stage.profile second) }
-    ensures true_where_the_piles_agree { Alike (P.Stage.profile first) (Q.Stage.profile second) → result ≡ true }
+// The answers of a past, as far as there is room.
+pub fn answers_to<P: Stage + Drop, const N: usize>(used: UsedPile<P>) -> ArrayVec<Option<Answer>, N>
+    ensures each_answer_where_there_is_room { length (answers_of_past (used_of P.Stage used.entry)) ≤ N →
+        map (option_map heard_of) result.items ≡
+        map Some (answers_of_past (used_of P.Stage used.entry)) }
 {
-    let mut one = play(first, first_rounds, &[]);
-    let mut other = play(second, second_rounds, &[]);
+    let mut record: Record<N> = Record {
+        answers: ArrayVec::new(),
+    };
+    let _ = play(used, &mut record);
+    record.answers
+}
+
+// Places each in turn on both, and tells each side's listener; whether every answer was the same on both.
+fn place_each<P: Stage, Q: Stage, L: Listener, M: Listener>(
+    one: &mut Open<P>,
+    other: &mut Open<Q>,
+    since: &[Asked],
+    listener: &mut L,
+    counterpart: &mut M,
+) -> bool
+    ensures answers_of_one_are_heard { FoldsTo L.hears listener.old
+        (told (state P.Stage one.old) (places since.now)) listener.new }
+    ensures answers_of_the_other_are_heard { FoldsTo M.hears counterpart.old
+        (told (state Q.Stage other.old) (places since.now)) counterpart.new }
+    ensures whether_the_answers_are_equal { IsTrue result ↔
+        (answers (state P.Stage one.old) since.now ≡ answers (state Q.Stage other.old) since.now) }
+{
+    let mut alike = true;
     for asked in since {
         let answer = one.place(*asked);
-        let counterpart = other.place(*asked);
-        if !same_answer(answer, counterpart) {
-            return false;
-        }
+        let opposite = other.place(*asked);
+        listener.hear(answer);
+        counterpart.hear(opposite);
+        let same = same_answer(answer, opposite);
+        alike = alike & same;
     }
-    true
+    alike
+}
+
+// Plays both pasts, reopens, and asks both for the same; whether every answer since was the same on both. Each side's
+// listener is told every answer of its past and since.
+pub fn place_alike<P: Stage + Drop, Q: Stage + Drop, L: Listener, M: Listener>(
+    first: UsedPile<P>,
+    second: UsedPile<Q>,
+    since: &[Asked],
+    listener: &mut L,
+    counterpart: &mut M,
+) -> bool
+    ensures every_answer_of_the_first_is_heard { FoldsTo L.hears listener.old
+        (answers_of_past (reopened_for since.now (used_of P.Stage first.entry))) listener.new }
+    ensures every_answer_of_the_second_is_heard { FoldsTo M.hears counterpart.old
+        (answers_of_past (reopened_for since.now (used_of Q.Stage second.entry))) counterpart.new }
+    ensures whether_the_answers_since_are_equal { IsTrue result ↔
+        (answers (opened (P.Stage.profile first.entry.pile)) since.now
+        ≡ answers (opened (Q.Stage.profile second.entry.pile)) since.now) }
+    ensures equal_requests_get_equal_answers { EqualRequestsGetEqualAnswers
+        (P.Stage.profile first.entry.pile) (Q.Stage.profile second.entry.pile) }
+    ensures true_where_the_piles_agree { Alike (P.Stage.profile first.entry.pile)
+        (Q.Stage.profile second.entry.pile) → IsTrue result }
+{
+    let mut one = play(first, listener).freeze().reopen();
+    let mut other = play(second, counterpart).freeze().reopen();
+    place_each(&mut one, &mut other, since, listener, counterpart)
 }

@@ -1,24 +1,18 @@
-use Rattle.std.proofs.Common.{[], get_or, sym, ap, ◌∙◌, subst}
-use Rattle.allocation.specs.States.{State, opened}
-use Rattle.histories.proofs.After.{lawful_after}
-use Rattle.histories.proofs.Rounds.{round_reopens, rounds_leave_nothing}
-use Rattle.histories.specs.Histories.{history, placed_all}
-use Rattle.histories.specs.Laws.{LawfulAllocation}
+use Rattle.histories.proofs.After.{lawful_after, lawful_ever}
+use Rattle.std.proofs.Common.{sym, ap, ◌∙◌}
+use Rattle.std.proofs.lemmas.List.{at_drop_all}
+use Rattle.allocation.specs.States.{State, state}
+use Rattle.histories.proofs.Leaving.{became_profile}
+use Rattle.histories.specs.Events.{became, used_of}
 use Rattle.histories.proofs.plays.play.Goals as goal
 
-pub loop-round-preserved : goal.loop-round-preserved
-loop-round-preserved g c =
-    let round = (get_or c.args.rounds.now c.loop-round.round-index (record { ref_ptr = (0, 0); now = [] })).now in
-    round_reopens _ round _ _ _ _ c.loop-round.invariant c.place_each.ensures.placed_in_turn c.freeze.ensures.pile_and_held_places_stay c.reopen-allocation.ensures.newly_opened
+pub returns-clause-lawful_at_every_moment : goal.returns-clause-lawful_at_every_moment
+returns-clause-lawful_at_every_moment g c = lawful_ever (used_of g.P.Stage c.args.used) (g.met.P.Stage.lawful c.args.used.pile)
 
-pub returns : goal.returns
-returns g c =
-    let p = g.P.Stage.profile c.args.pile in
-    let h = history c.args.rounds.now c.args.since.now in
-    let reopened = c.loop-round.invariant ∙ ap (λ (s : State). opened s.profile) c.new-allocation.ensures.newly_opened ∙ sym (rounds_leave_nothing h.rounds p) in
-    let plays = c.place_each-2.ensures.placed_in_turn ∙ ap (λ s. placed_all s h.since) reopened in
-    record {
-      plays_the_history = plays;
-      lawful_after_this_history = subst (LawfulAllocation p h) (sym plays) (lawful_after p h (g.met.P.Stage.lawful c.args.pile));
-      lawful_after_every_history = λ other. lawful_after p other (g.met.P.Stage.lawful c.args.pile);
-    }
+pub returns-clause-lawful_after_every_past : goal.returns-clause-lawful_after_every_past
+returns-clause-lawful_after_every_past g c past = lawful_after (record { profile = g.P.Stage.profile c.args.used.pile; past = past }) (g.met.P.Stage.lawful c.args.used.pile)
+
+pub returns-clause-profile_stays : goal.returns-clause-profile_stays
+returns-clause-profile_stays g c =
+    let last = sym (at_drop_all (became (state g.P.Stage c.loop-event.allocation)) c.args.used.past.now c.loop-event.event-index c.loop-event-test.false) ∙ c.loop-event.invariant.0 in
+    ap (λ (s : State). s.profile) last ∙ became_profile c.args.used.past.now (g.P.Stage.profile c.args.used.pile)
