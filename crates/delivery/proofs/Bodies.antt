@@ -7,7 +7,8 @@ use Rattle.machine.specs.declared.Instruction.{Instruction}
 use Rattle.machine.specs.declared.Instruction.TheVariants.{Set, Mov, Add, Addi, Sign, Load, Store, Call, Ret, Halt}
 use Rattle.machine.specs.declared.Width.{Width}
 use Rattle.delivery.specs.Code.{writes, written}
-use Rattle.delivery.specs.Delivering.{Sane, Sized}
+use Rattle.delivery.proofs.Ready.{Sane}
+use Rattle.delivery.specs.Delivering.{Sized}
 use Rattle.delivery.proofs.Accepting.{WithinHomes, Accepted}
 use Rattle.delivery.proofs.Leading.{Leads, leads_then, leads_weaker, Keeps, keeps_same, keeps_then, keeps_weaker, Every, But, Beside}
 use Rattle.delivery.proofs.Places.{beside_part}

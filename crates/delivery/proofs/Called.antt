@@ -1,13 +1,15 @@
 -- The callee up to the body, and after it.
-use Rattle.std.proofs.Common.{◌≡◌, ℕ, ◌+◌, ◌*◌, ◌^◌, ◌<◌, ◌≤◌, List, [], ◌∷◌, ◌++◌, length, refl, ◌∙◌, subst, inr, add-zero, arith}
+use Rattle.std.proofs.Common.{◌≡◌, map, ℕ, ◌+◌, ◌*◌, ◌^◌, ◌<◌, ◌≤◌, List, [], ◌∷◌, ◌++◌, length, refl, ◌∙◌, subst, inr, add-zero, arith}
 use Rattle.std.proofs.ByRecursion.{All-weaker}
 use Rattle.std.specs.List.{AllByRecursion}
 use Rattle.machine.specs.Machine.{Contents, reg}
+use Rattle.place.specs.Pieces.{Below, EachApart}
 use Rattle.place.specs.Holdings.{Holding}
 use Rattle.place.specs.declared.pieces.Piece.{Piece}
 use Rattle.place.specs.declared.pieces.Piece.TheVariants.{Register, Block}
 use Rattle.delivery.specs.Code.{home_bytes, fill_all, copy_all, save_all, restore_all, down, up, before_body, after_body}
-use Rattle.delivery.specs.Delivering.{Sane, Fits, AllApart, AllPieces, EndsBy, InRegister, Spares, Widened}
+use Rattle.delivery.proofs.Ready.{Sane, Fits, AllPieces, InRegister, Spares}
+use Rattle.delivery.specs.Delivering.{Widened}
 use Rattle.delivery.proofs.Copying.{copy_all_lem}
 use Rattle.delivery.proofs.Filling.{clear_of, fill_all_lem}
 use Rattle.delivery.proofs.Leading.{Leads, leads_then, leads_weaker, Keeps, keeps_then, Every, But, Beside}
@@ -34,7 +36,7 @@ values_kept (r ∷ rs) V x y k a b = (k r a.0 ∙ b.0, values_kept rs V x y k a.
 
 pub callee_before :
     (args results : List Holding) (rs : List ℕ) (V : ℕ → ℕ) (sp f b : ℕ) (m : List ℕ) (c : ℕ) (x : Contents) →
-    Sane x → sp + f ≡ reg x 31 → AllByRecursion Fits args → AllPieces (EndsBy b) args → home_bytes (length args + length results) + 4 * length rs ≤ f → f + b < 2 ^ 15 → sp + f + b ≤ length x.mem →
+    Sane x → sp + f ≡ reg x 31 → AllByRecursion Fits args → AllPieces (Below b) args → home_bytes (length args + length results) + 4 * length rs ≤ f → f + b < 2 ^ 15 → sp + f + b ≤ length x.mem →
     AllByRecursion (λ r. r < 28) rs → AllByRecursion (λ r. reg x r ≡ V r) rs → AllHave x (sp + f) args m c →
     Leads (before_body args results rs f) x (Received args rs V sp f (home_bytes (length args + length results)) m c x)
 callee_before args results rs V sp f b m c x n s w ends deep near room small values has =
@@ -69,14 +71,14 @@ pub record Answered (results : List Holding) (rs : List ℕ) (V : ℕ → ℕ) (
 
 pub callee_after :
     (args results : List Holding) (rs : List ℕ) (V : ℕ → ℕ) (sp f : ℕ) (x : Contents) →
-    Sane x → reg x 31 ≡ sp → sp + f < 2 ^ 32 → AllByRecursion Fits results → AllApart results → AllPieces InRegister results → home_bytes (length args + length results) + 4 * length rs ≤ f → f < 2 ^ 15 → sp + f ≤ length x.mem →
+    Sane x → reg x 31 ≡ sp → sp + f < 2 ^ 32 → AllByRecursion Fits results → EachApart (map (λ x. x.place) results) → AllPieces InRegister results → home_bytes (length args + length results) + 4 * length rs ≤ f → f < 2 ^ 15 → sp + f ≤ length x.mem →
     AllByRecursion (λ r. r < 28) rs → AllByRecursion (λ r. AllPieces (Spares r) results) rs → ((r : ℕ) → V r < 2 ^ 32) → SavedAt x.mem (sp + home_bytes (length args + length results)) rs V →
     Leads (after_body args results rs f) x (Answered results rs V sp f (home_bytes (length args)) x)
 callee_after args results rs V sp f x n s top w apart only deep near room small spared below at =
     let home : ℕ = home_bytes (length args) in
     let h : ℕ = home_bytes (length args + length results) in
     let sounds = all_sound results w in
-    let ends : AllPieces (EndsBy 0) results = all_pieces_weaker InRegister (EndsBy 0) (λ p i. register_ends p 0 i) results only in
+    let ends : AllPieces (Below 0) results = all_pieces_weaker InRegister (Below 0) (λ p i. register_ends p 0 i) results only in
     let missed : (a : ℕ) → AllPieces (Misses sp a) results = λ a. all_pieces_weaker InRegister (Misses sp a) (λ p i. register_missed p sp a i) results only in
     leads_then (fill_all results home) (restore_all rs h ++ (up f ∷ [])) x (fill_all_lem results 0 home sp x.mem x n s w apart ends (omega arith) (omega arith) (omega arith) (λ i l. refl)) λ z got.
     let size = got.1.size in

@@ -1,10 +1,12 @@
 -- The caller up to the call, and after it.
-use Rattle.std.proofs.Common.{◌≡◌, ℕ, ◌+◌, ◌^◌, ◌<◌, ◌≤◌, List, [], ◌∷◌, length, get_or, ◌∙◌, arith}
+use Rattle.std.proofs.Common.{◌≡◌, map, ℕ, ◌+◌, ◌^◌, ◌<◌, ◌≤◌, List, [], ◌∷◌, length, get_or, ◌∙◌, arith}
 use Rattle.std.specs.List.{AllByRecursion}
 use Rattle.machine.specs.Machine.{Contents, reg}
+use Rattle.place.specs.Pieces.{Below, EachApart}
 use Rattle.place.specs.Holdings.{Holding}
 use Rattle.delivery.specs.Code.{home_bytes, fill_all, store_all, down, up, before_call, after_call}
-use Rattle.delivery.specs.Delivering.{Sane, Fits, AllApart, AllPieces, EndsBy, InRegister, Returned, ResultByte}
+use Rattle.delivery.proofs.Ready.{Sane, Fits, AllPieces, InRegister}
+use Rattle.delivery.specs.Delivering.{Returned, ResultByte}
 use Rattle.delivery.proofs.Filling.{clear_of, fill_all_lem}
 use Rattle.delivery.proofs.Leading.{Leads, leads_then, leads_weaker, Keeps, keeps_then, But}
 use Rattle.delivery.proofs.Places.{AllHave, Misses, Clear}
@@ -19,7 +21,7 @@ pub record Sent (args : List Holding) (b sp : ℕ) (x y : Contents) : Type 0 whe
 
 pub caller_before :
     (args : List Holding) (b sp : ℕ) (x : Contents) →
-    Sane x → sp + b ≡ reg x 31 → AllByRecursion Fits args → AllApart args → AllPieces (EndsBy b) args → b + home_bytes (length args) < 2 ^ 15 → sp + b + home_bytes (length args) ≤ length x.mem → Leads (before_call args b) x (Sent args b sp x)
+    Sane x → sp + b ≡ reg x 31 → AllByRecursion Fits args → EachApart (map (λ x. x.place) args) → AllPieces (Below b) args → b + home_bytes (length args) < 2 ^ 15 → sp + b + home_bytes (length args) ≤ length x.mem → Leads (before_call args b) x (Sent args b sp x)
 caller_before args b sp x n s f apart ends near room =
     leads_then (down b ∷ []) (fill_all args b) x (down_step b sp x n (omega arith) s) λ z low.
     let size = low.1.size in

@@ -6,14 +6,15 @@ use Rattle.machine.specs.Machine.{Contents, reg, bytes_of}
 use Rattle.machine.specs.declared.Instruction.TheVariants.{Load, Store}
 use Rattle.machine.specs.declared.Width.TheVariants as Widths
 use Rattle.place.specs.Holdings.{Holding}
-use Rattle.place.specs.Pieces.{pieces, piece_width, place_width, WellFormed}
+use Rattle.place.specs.Pieces.{pieces, piece_width, place_width, WellFormed, Below}
 use Rattle.place.specs.declared.pieces.Piece.{Piece}
 use Rattle.place.specs.declared.pieces.Piece.TheVariants.{Register, Block}
 use Rattle.place.specs.declared.pieces.Place.{Place}
 use Rattle.place.specs.declared.pieces.Place.TheVariants.{Single, Double}
 use Rattle.values.specs.Sizes.{bytes}
 use Rattle.delivery.specs.Code.{offset, home_size, home_bytes, moved, copy_piece, copy_pieces, copy_all}
-use Rattle.delivery.specs.Delivering.{Sane, Fits, AllPieces, EndsBy, Widened}
+use Rattle.delivery.proofs.Ready.{Sane, Fits, AllPieces}
+use Rattle.delivery.specs.Delivering.{Widened}
 use Rattle.delivery.specs.Widening.{byte_of, widened_byte}
 use Rattle.delivery.proofs.Leading.{Leads, leads_then, leads_weaker, leads_end, Keeps, keeps_same, keeps_then, keeps_weaker, But, Beside}
 use Rattle.delivery.proofs.Memory.{word_byte}
@@ -22,7 +23,7 @@ use Rattle.delivery.proofs.Steps.{load_offset, store_offset}
 
 -- a piece is copied to offset h; the block lies at offset f
 copy_piece_lem :
-    (p : Piece) (sp f h b : ℕ) (x : Contents) (V : ℕ → ℕ) → Sane x → reg x 31 ≡ sp → Sound p → EndsBy b p → h < 2 ^ 15 → f + b < 2 ^ 15 → sp + h + 4 ≤ length x.mem → sp + f + b ≤ length x.mem → PieceHas x (sp + f) p V →
+    (p : Piece) (sp f h b : ℕ) (x : Contents) (V : ℕ → ℕ) → Sane x → reg x 31 ≡ sp → Sound p → Below b p → h < 2 ^ 15 → f + b < 2 ^ 15 → sp + h + 4 ≤ length x.mem → sp + f + b ≤ length x.mem → PieceHas x (sp + f) p V →
     Leads (copy_piece f p h) x (λ y. ((i : ℕ) → i < piece_width p → get_or y.mem (sp + h + i) 0 ≡ V i) × Keeps (But 28) (Beside (sp + h) 4) x y)
 copy_piece_lem (Register d) sp f h b x V n s k e low near room block has =
     leads_weaker (copy_piece f (Register d) h) x (store_offset sp d h Widths.Four x n s (omega arith) low room) λ y put.
@@ -44,7 +45,7 @@ shielded_below (Register d) sp f h k s l = λ same. omega arith
 shielded_below (Block o w) sp f h k s l = λ i q. inr (omega arith)
 
 copy_place_lem :
-    (p : Place) (sp f h b : ℕ) (x : Contents) (V : ℕ → ℕ) → Sane x → reg x 31 ≡ sp → WellFormed p → AllByRecursion (EndsBy b) (pieces p) → h + 8 ≤ f → f + b < 2 ^ 15 → sp + f + b ≤ length x.mem → PlaceHas x (sp + f) p V →
+    (p : Place) (sp f h b : ℕ) (x : Contents) (V : ℕ → ℕ) → Sane x → reg x 31 ≡ sp → WellFormed p → AllByRecursion (Below b) (pieces p) → h + 8 ≤ f → f + b < 2 ^ 15 → sp + f + b ≤ length x.mem → PlaceHas x (sp + f) p V →
     Leads (copy_pieces f (pieces p) h) x (λ y. ((j : ℕ) → j < place_width p → get_or y.mem (sp + h + j) 0 ≡ V j) × Keeps (But 28) (Beside (sp + h) 8) x y)
 copy_place_lem (Single low) sp f h b x V n s w ends below near room has =
     leads_end (copy_piece f low h) x
@@ -77,7 +78,7 @@ place_small (Double low high) w = omega arith
 -- places that hold their homes' bytes are copied to other homes
 pub copy_all_lem :
     (hs : List Holding) (sp f h b : ℕ) (m : List ℕ) (c : ℕ) (x : Contents) →
-    Sane x → reg x 31 ≡ sp → AllByRecursion Fits hs → AllPieces (EndsBy b) hs → h + home_bytes (length hs) ≤ f → f + b < 2 ^ 15 → sp + f + b ≤ length x.mem → AllHave x (sp + f) hs m c →
+    Sane x → reg x 31 ≡ sp → AllByRecursion Fits hs → AllPieces (Below b) hs → h + home_bytes (length hs) ≤ f → f + b < 2 ^ 15 → sp + f + b ≤ length x.mem → AllHave x (sp + f) hs m c →
     Leads (copy_all f hs h) x (λ y. Widened hs y.mem (sp + h) m c × Keeps (But 28) (Beside (sp + h) (home_bytes (length hs))) x y)
 copy_all_lem [] sp f h b m c x n s w ends below near room has = (x, refl, (tt, keeps_same n))
 copy_all_lem (a ∷ hs) sp f h b m c x n s w ends below near room has =

@@ -6,10 +6,12 @@ use Rattle.std.specs.List.{AllByRecursion}
 use Rattle.machine.specs.Laws.{effects}
 use Rattle.machine.specs.Machine.{Contents, reg, with_reg}
 use Rattle.machine.specs.declared.Instruction.{Instruction}
+use Rattle.place.specs.Pieces.{Below}
 use Rattle.place.specs.Holdings.{Holding}
 use Rattle.place.specs.Registers.{has}
 use Rattle.delivery.specs.Code.{home_bytes, frame_bytes, saved, written, before_call, after_call, before_body, after_body}
-use Rattle.delivery.specs.Delivering.{AllPieces, EndsBy, ResultByte, Ready, Widened, Returned, Delivers}
+use Rattle.delivery.proofs.Ready.{AllPieces, Ready}
+use Rattle.delivery.specs.Delivering.{ResultByte, Widened, Returned, Delivers}
 use Rattle.delivery.proofs.Bodies.{written_below}
 use Rattle.delivery.proofs.Filling.{clear_of}
 use Rattle.delivery.proofs.Leading.{But, Beside}
@@ -63,7 +65,7 @@ module _ (args results : List Holding) (kept : ℕ) (body : List Instruction) (b
       ∙ (ran.mem i (beside_part sp (f + b) sp (home_bytes (length args + length results)) i (omega arith) (omega arith) beside)
       ∙ (begun.received.keeps.mem i (beside_part sp (f + b) sp f i (omega arith) (omega arith) beside)
       ∙ (begun.keeps.mem i tt
-      ∙ begun.sent.keeps.mem i (all_pieces_weaker (EndsBy b) (Misses (sp + f) i) (λ g e. misses_beside (sp + f) b i g block e) args ready.block_ends_by_b)))))
+      ∙ begun.sent.keeps.mem i (all_pieces_weaker (Below b) (Misses (sp + f) i) (λ g e. misses_beside (sp + f) b i g block e) args ready.block_ends_by_b)))))
 
   delivers : effects body p ≡ Some q → f ≡ frame_bytes args results (saved kept body) → Delivers args results kept body b x p q y
   delivers e same =

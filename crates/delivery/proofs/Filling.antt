@@ -1,5 +1,5 @@
 -- Places are filled from homes.
-use Rattle.std.proofs.Common.{◌≡◌, ℕ, ◌+◌, ◌^◌, ◌<◌, ◌≤◌, Bool, true, ltb, List, [], ◌∷◌, ◌++◌, length, sym, refl, ap, ◌∙◌, subst, add_assoc, arith}
+use Rattle.std.proofs.Common.{◌≡◌, map, ℕ, ◌+◌, ◌^◌, ◌<◌, ◌≤◌, Bool, true, ltb, List, [], ◌∷◌, ◌++◌, length, sym, refl, ap, ◌∙◌, subst, add_assoc, arith}
 use Rattle.std.proofs.ByRecursion.{All-weaker}
 use Rattle.std.proofs.lemmas.Bool.{lt-ltb}
 use Rattle.std.specs.List.{AllByRecursion}
@@ -9,7 +9,7 @@ use Rattle.machine.specs.declared.Instruction.TheVariants.{Set, Sign, Load}
 use Rattle.machine.specs.declared.Width.{Width}
 use Rattle.machine.specs.declared.Width.TheVariants as Widths
 use Rattle.place.specs.Holdings.{Holding}
-use Rattle.place.specs.Pieces.{pieces, Apart, WellFormed, PiecesApart}
+use Rattle.place.specs.Pieces.{pieces, Apart, PlacesApart, WellFormed, PiecesApart, Below, EachApart}
 use Rattle.place.specs.declared.pieces.Piece.{Piece}
 use Rattle.place.specs.declared.pieces.Piece.TheVariants.{Register, Block}
 use Rattle.place.specs.declared.pieces.Place.{Place}
@@ -20,18 +20,18 @@ use Rattle.values.specs.declared.kinds.Kind.TheVariants.{Unsigned, Signed, Float
 use Rattle.values.specs.declared.sizes.Size.{Size}
 use Rattle.values.specs.declared.sizes.Size.TheVariants.{One, Two, Four, Eight}
 use Rattle.delivery.specs.Code.{offset, home_size, home_bytes, moved, through, by_sign, extend, settle, fill_further, fill_pieces, fill_all}
-use Rattle.delivery.specs.Delivering.{Sane, Fits, AllApart, AllPieces, EndsBy}
+use Rattle.delivery.proofs.Ready.{Sane, Fits, AllPieces}
 use Rattle.delivery.specs.Widening.{byte_of, widened_byte}
 use Rattle.delivery.proofs.Leading.{Leads, leads_then, leads_weaker, leads_end, Keeps, keeps_same, keeps_then, keeps_weaker, Every, But}
 use Rattle.delivery.proofs.Memory.{AgreeFrom, word_same}
-use Rattle.delivery.proofs.Places.{PieceHas, PlaceHas, AllHave, Carried, piece_carried, place_carried, Misses, Clear, shielded_carried, shielded_apart, shielded_all, pieces_apart, through_below, Sound, pieces_sound, moved_bytes, moved_small, beside_part, misses_above}
+use Rattle.delivery.proofs.Places.{all_places, PieceHas, PlaceHas, AllHave, Carried, piece_carried, place_carried, Misses, Clear, shielded_carried, shielded_apart, shielded_all, pieces_apart, through_below, Sound, pieces_sound, moved_bytes, moved_small, beside_part, misses_above}
 use Rattle.delivery.proofs.Steps.{set_step, load_offset, store_offset}
 use Rattle.delivery.proofs.Widths.{upper, further, whole_loaded, loaded_byte, further_byte, sign_below, widened_same}
 
 -- an instruction that makes a piece's value, and what puts it into its place
 fill_piece :
     (p : Piece) (sp base : ℕ) (i : Instruction) (x : Contents) (v : ℕ) (V : ℕ → ℕ) →
-    Sound p → EndsBy base p → base < 2 ^ 15 → reg x 31 ≡ sp → sp + base ≤ length x.mem → Leads (i ∷ []) x (λ y. (reg y (through p) ≡ v) × Keeps (But (through p)) Every x y) →
+    Sound p → Below base p → base < 2 ^ 15 → reg x 31 ≡ sp → sp + base ≤ length x.mem → Leads (i ∷ []) x (λ y. (reg y (through p) ≡ v) × Keeps (But (through p)) Every x y) →
     ((j : ℕ) → j < 4 → byte_of v j ≡ V j) →
     Leads (i ∷ settle p) x (λ y. PieceHas y sp p V × (reg y (through p) ≡ v) × Keeps (λ r. Clear r p) (λ a. Misses sp a p) x y)
 fill_piece (Register d) sp base i x v V f e near s room made b =
@@ -73,7 +73,7 @@ loaded_same w b m n a e = ap (widened b (bytes_of w)) (word_same (bytes_of w) m 
 -- the low piece of a place is filled from its home; m is memory with the same homes
 fill_low :
     (p : Piece) (t : Kind) (w : Size) (base home sp : ℕ) (m : List ℕ) (x : Contents) →
-    Sane x → reg x 31 ≡ sp → Sound p → EndsBy base p → base ≤ home → home + 8 ≤ 2 ^ 15 → sp + home + 8 ≤ length x.mem → AgreeFrom (sp + base) x.mem m →
+    Sane x → reg x 31 ≡ sp → Sound p → Below base p → base ≤ home → home + 8 ≤ 2 ^ 15 → sp + home + 8 ≤ length x.mem → AgreeFrom (sp + base) x.mem m →
     Leads (Load (through p) 31 (offset home) (moved w) (by_sign t) ∷ settle p) x
     (λ y. PieceHas y sp p (widened_byte t w m (sp + home)) × (reg y (through p) ≡ loaded x.mem (sp + home) (moved w) (by_sign t)) × Keeps (λ r. Clear r p) (λ a. Misses sp a p) x y)
 fill_low p t w base home sp m x n s f ends below near room agree =
@@ -86,7 +86,7 @@ fill_low p t w base home sp m x n s f ends below near room agree =
 -- the second piece of a place is filled, where register s has the low piece
 fill_high :
     (p : Piece) (t : Kind) (w : Size) (base home sp s : ℕ) (m : List ℕ) (x : Contents) →
-    Sane x → reg x 31 ≡ sp → s < 32 → reg x s ≡ loaded x.mem (sp + home) (moved w) (by_sign t) → Sound p → EndsBy base p → base ≤ home → home + 8 ≤ 2 ^ 15 → sp + home + 8 ≤ length x.mem → AgreeFrom (sp + base) x.mem m →
+    Sane x → reg x 31 ≡ sp → s < 32 → reg x s ≡ loaded x.mem (sp + home) (moved w) (by_sign t) → Sound p → Below base p → base ≤ home → home + 8 ≤ 2 ^ 15 → sp + home + 8 ≤ length x.mem → AgreeFrom (sp + base) x.mem m →
     Leads (fill_further t w 1 (through p) s home ∷ settle p) x (λ y. PieceHas y sp p (λ i. widened_byte t w m (sp + home) (4 + i)) × Keeps (λ r. Clear r p) (λ a. Misses sp a p) x y)
 fill_high p t w base home sp s m x n at l e f ends below near room agree =
     let reach = through_below p f.0 in
@@ -100,7 +100,7 @@ fill_high p t w base home sp s m x n at l e f ends below near room agree =
 -- a place is filled from its home
 fill_place_lem :
     (p : Place) (t : Kind) (w : Size) (base home sp : ℕ) (m : List ℕ) (x : Contents) →
-    Sane x → reg x 31 ≡ sp → WellFormed p → PiecesApart p → AllByRecursion (EndsBy base) (pieces p) → base ≤ home → home + 8 ≤ 2 ^ 15 → sp + home + 8 ≤ length x.mem → AgreeFrom (sp + base) x.mem m →
+    Sane x → reg x 31 ≡ sp → WellFormed p → PiecesApart p → AllByRecursion (Below base) (pieces p) → base ≤ home → home + 8 ≤ 2 ^ 15 → sp + home + 8 ≤ length x.mem → AgreeFrom (sp + base) x.mem m →
     Leads (fill_pieces t w (pieces p) home) x (λ y. PlaceHas y sp p (widened_byte t w m (sp + home)) × Keeps (λ r. AllByRecursion (Clear r) (pieces p)) (λ a. AllByRecursion (Misses sp a) (pieces p)) x y)
 fill_place_lem (Single low) t w base home sp m x n s f apart ends below near room agree =
     let code : List Instruction = Load (through low) 31 (offset home) (moved w) (by_sign t) ∷ settle low in
@@ -139,7 +139,7 @@ pieces_kept (p ∷ ps) hs sp x y c d k =
 -- places that share no byte are filled from their homes; m is memory with the same homes
 pub fill_all_lem :
     (hs : List Holding) (base home sp : ℕ) (m : List ℕ) (x : Contents) →
-    Sane x → reg x 31 ≡ sp → AllByRecursion Fits hs → AllApart hs → AllPieces (EndsBy base) hs → base ≤ home → home + home_bytes (length hs) ≤ 2 ^ 15 → sp + home + home_bytes (length hs) ≤ length x.mem → AgreeFrom (sp + base) x.mem m →
+    Sane x → reg x 31 ≡ sp → AllByRecursion Fits hs → EachApart (map (λ x. x.place) hs) → AllPieces (Below base) hs → base ≤ home → home + home_bytes (length hs) ≤ 2 ^ 15 → sp + home + home_bytes (length hs) ≤ length x.mem → AgreeFrom (sp + base) x.mem m →
     Leads (fill_all hs home) x (λ y. AllHave y sp hs m (sp + home) × Keeps (λ r. AllPieces (Clear r) hs) (λ a. AllPieces (Misses sp a) hs) x y)
 fill_all_lem [] base home sp m x n s f apart ends below near room agree = (x, refl, (tt, keeps_same n))
 fill_all_lem (h ∷ hs) base home sp m x n s f apart ends below near room agree =
@@ -149,10 +149,10 @@ fill_all_lem (h ∷ hs) base home sp m x n s f apart ends below near room agree 
     (fill_place_lem h.place h.kind h.width base home sp m x n s formed f.0.pieces_share_no_byte ends.0 below (omega arith) (omega arith) agree) λ z got.
     let size = got.1.size in
     let pointer : reg z 31 ≡ sp = got.1.regs 31 (clear_of 31 (h ∷ hs) (omega arith) f).0 ∙ s in
-    let stays : AgreeFrom (sp + base) z.mem m = λ i l. got.1.mem i (All-weaker (EndsBy base) (Misses sp i) (λ p e. misses_above sp base i p l e) (pieces h.place) ends.0) ∙ agree i l in
+    let stays : AgreeFrom (sp + base) z.mem m = λ i l. got.1.mem i (All-weaker (Below base) (Misses sp i) (λ p e. misses_above sp base i p l e) (pieces h.place) ends.0) ∙ agree i l in
     leads_weaker (fill_all hs (home + home_size)) z (fill_all_lem hs base (home + home_size) sp m z got.1.sane pointer f.1 apart.1 ends.1 (omega arith) (omega arith) (omega arith) stays) λ y rest. (
       (
-        place_carried h.place z sp y sp V (pieces_kept (pieces h.place) hs sp z y (pieces_sound h.place formed) (pieces_apart h.place hs apart.0) rest.1) got.0,
+        place_carried h.place z sp y sp V (pieces_kept (pieces h.place) hs sp z y (pieces_sound h.place formed) (pieces_apart h.place hs (all_places (PlacesApart h.place) hs apart.0)) rest.1) got.0,
         subst (λ (c : ℕ). AllHave y sp hs m c) (sym (add_assoc sp home home_size)) rest.0,
       ),
       keeps_then got.1 rest.1 (λ r q. q) (λ a q. q),

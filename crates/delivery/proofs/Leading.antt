@@ -4,7 +4,7 @@ use Rattle.machine.proofs.Straight.{split}
 use Rattle.machine.specs.Laws.{and_then, effects}
 use Rattle.machine.specs.Machine.{Contents, effect, reg}
 use Rattle.machine.specs.declared.Instruction.{Instruction}
-use Rattle.delivery.specs.Delivering.{Sane}
+use Rattle.delivery.proofs.Ready.{Sane}
 
 -- code after code
 pub effects_append : (is js : List Instruction) (x y : Contents) → effects is x ≡ Some y → effects (is ++ js) x ≡ effects js y

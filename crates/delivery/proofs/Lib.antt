@@ -1,3 +1,4 @@
+pub mod Ready
 pub mod Memory
 pub mod Widths
 pub mod Leading
@@ -14,3 +15,4 @@ pub mod Called
 pub mod Parts
 pub mod Deliveries
 pub mod Running
+pub mod WholeOffsets

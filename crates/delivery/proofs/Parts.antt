@@ -8,7 +8,7 @@ use Rattle.machine.specs.declared.Instruction.{Instruction}
 use Rattle.place.specs.Holdings.{Holding}
 use Rattle.place.specs.Registers.{has}
 use Rattle.delivery.specs.Code.{home_bytes, saved, written, before_call, after_call, before_body, after_body}
-use Rattle.delivery.specs.Delivering.{AllPieces, Spares, Ready}
+use Rattle.delivery.proofs.Ready.{AllPieces, Spares, Ready}
 use Rattle.delivery.proofs.Accepting.{Accepted, no_fault_accepted}
 use Rattle.delivery.proofs.Bodies.{written_below, body_runs}
 use Rattle.delivery.proofs.Called.{Received, callee_before, Answered, callee_after}

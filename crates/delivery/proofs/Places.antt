@@ -1,10 +1,10 @@
 -- What pieces and places hold, byte by byte, and what leaves it alone.
-use Rattle.std.proofs.Common.{◌≡◌, ℕ, ◌+◌, ◌<◌, ◌≤◌, List, [], ◌∷◌, get_or, sym, refl, ap, ◌∙◌, inl, inr, arith}
+use Rattle.std.proofs.Common.{◌≡◌, map, ℕ, ◌+◌, ◌<◌, ◌≤◌, List, [], ◌∷◌, get_or, sym, refl, ap, ◌∙◌, inl, inr, arith}
 use Rattle.std.proofs.ByRecursion.{All-weaker}
 use Rattle.std.specs.List.{AllByRecursion}
 use Rattle.machine.specs.Machine.{Contents, reg, bytes_of}
 use Rattle.place.specs.Holdings.{Holding}
-use Rattle.place.specs.Pieces.{of_register, of_block, pieces, piece_width, Placeable, WellFormed, Apart, PlacesApart}
+use Rattle.place.specs.Pieces.{of_register, of_block, pieces, piece_width, Placeable, WellFormed, Apart, PlacesApart, Below}
 use Rattle.place.specs.declared.pieces.Piece.{Piece}
 use Rattle.place.specs.declared.pieces.Piece.TheVariants.{Register, Block}
 use Rattle.place.specs.declared.pieces.Place.{Place}
@@ -13,7 +13,7 @@ use Rattle.values.specs.Sizes.{bytes}
 use Rattle.values.specs.declared.sizes.Size.{Size}
 use Rattle.values.specs.declared.sizes.Size.TheVariants.{One, Two, Four, Eight}
 use Rattle.delivery.specs.Code.{home_size, moved, through}
-use Rattle.delivery.specs.Delivering.{Fits, AllPieces, EndsBy, InRegister, Spares}
+use Rattle.delivery.proofs.Ready.{Fits, AllPieces, InRegister, Spares}
 use Rattle.delivery.specs.Widening.{byte_of, widened_byte}
 use Rattle.delivery.proofs.Leading.{Keeps, Every, But, Beside}
 
@@ -97,6 +97,11 @@ pub shielded_all : (p : Piece) (hs : List Holding) (sp : ℕ) → Placeable p �
 shielded_all (Register d) hs sp f a = all_pieces_weaker (Apart (Register d)) (Clear d) (λ q b. shielded_apart (Register d) q sp f b) hs a
 shielded_all (Block o w) hs sp f a = λ i l. all_pieces_weaker (Apart (Block o w)) (Misses sp (sp + o + i)) (λ q b. shielded_apart (Block o w) q sp f b i l) hs a
 
+-- what holds of places holds of those who hold them
+pub all_places : (P : Place → Type 0) (hs : List Holding) → AllByRecursion P (map (λ x. x.place) hs) → AllByRecursion (λ h. P h.place) hs
+all_places P [] a = tt
+all_places P (h ∷ hs) a = (a.0, all_places P hs a.1)
+
 -- each piece of a place is apart from every place that the place is apart from
 pub pieces_apart : (p : Place) (hs : List Holding) → AllByRecursion (λ g. PlacesApart p g.place) hs → AllByRecursion (λ q. AllPieces (Apart q) hs) (pieces p)
 pieces_apart (Single low) hs a = (All-weaker (λ g. PlacesApart (Single low) g.place) (λ g. AllByRecursion (Apart low) (pieces g.place)) (λ g b. b.0) hs a, tt)
@@ -127,7 +132,7 @@ pub register_missed : (p : Piece) (sp a : ℕ) → InRegister p → Misses sp a 
 register_missed (Register d) sp a i = tt
 register_missed (Block o w) sp a i = absurd i
 
-pub register_ends : (p : Piece) (b : ℕ) → InRegister p → EndsBy b p
+pub register_ends : (p : Piece) (b : ℕ) → InRegister p → Below b p
 register_ends (Register d) b i = tt
 register_ends (Block o w) b i = absurd i
 
@@ -173,10 +178,10 @@ pub outside : (a k j : ℕ) → ((a ≤ j) × (j < a + k) → ⊥) → Beside a 
 outside a k j h = grind arith
 
 -- bytes beside the block are missed
-pub misses_beside : (sp base a : ℕ) (p : Piece) → Beside sp base a → EndsBy base p → Misses sp a p
+pub misses_beside : (sp base a : ℕ) (p : Piece) → Beside sp base a → Below base p → Misses sp a p
 misses_beside sp base a (Register d) h e = tt
 misses_beside sp base a (Block o w) (inl h) e = inl (omega arith)
 misses_beside sp base a (Block o w) (inr h) e = inr (omega arith)
 
-pub misses_above : (sp base a : ℕ) (p : Piece) → sp + base ≤ a → EndsBy base p → Misses sp a p
+pub misses_above : (sp base a : ℕ) (p : Piece) → sp + base ≤ a → Below base p → Misses sp a p
 misses_above sp base a p h e = misses_beside sp base a p (inr h) e

@@ -17,9 +17,10 @@ use Rattle.place.specs.declared.pieces.Place.TheVariants.{Single, Double}
 use Rattle.values.specs.declared.kinds.Kind.{Kind}
 use Rattle.values.specs.declared.sizes.Size.{Size}
 use Rattle.delivery.specs.Code.{home_size, settle, fill_pieces, each_home, fill_place, fill_all, saved, frame_bytes, before_call, after_call, before_body, after_body, caller_code, callee_code}
-use Rattle.delivery.specs.Delivering.{Reaches, BodyRuns, RunDelivers, RunDeliversThroughTheBody}
+use Rattle.delivery.specs.Delivering.{Reaches, BodyRuns, Delivers, ended, index_of_body, steps_to_body}
 use Rattle.delivery.proofs.Deliveries.{call_delivers}
 use Rattle.delivery.proofs.Leading.{effects_append}
+use Rattle.delivery.proofs.Ready.{Ready}
 
 settle_short : (p : Piece) → length (settle p) ≤ 1
 settle_short (Register d) = omega arith
@@ -43,7 +44,7 @@ fill_all_short = each_short fill_place (λ a h. fill_short a.place a.kind a.widt
 
 -- the steps to the end of some code at the callee's front
 abbrev steps_to : List Instruction → List Instruction → ℕ
-steps_to before inner = length before + suc (length inner)
+steps_to before inner = length before + 1 + length inner
 
 -- a run comes to the end of code at the callee's front
 comes_to :
@@ -68,7 +69,8 @@ comes_to a b before after inner rest x x₁ p h g small e₁ e₂ =
 -- it goes through a body that stands between two pieces of straight-line code
 goes_through :
     (a b before after inner body rest : List Instruction) (x x₁ p q : Contents) → Holds a 0 (calling before after) → Holds b 0 (inner ++ (body ++ rest)) → length before + 1 < 2 ^ 32 →
-    effects before x ≡ Some x₁ → effects inner (with_reg x₁ 30 (length before + 1)) ≡ Some p → effects body p ≡ Some q → BodyRuns a b (running Caller 0 x) body p q
+    effects before x ≡ Some x₁ → effects inner (with_reg x₁ 30 (length before + 1)) ≡ Some p → effects body p ≡ Some q →
+    BodyRuns a b (running Caller 0 x) body (length inner) (length before + 1 + length inner) p q
 goes_through a b before after inner body rest x x₁ p q h g small e₁ e₂ e₃ =
     let through : effects (inner ++ body) (with_reg x₁ 30 (length before + 1)) ≡ Some q = effects_append inner body (with_reg x₁ 30 (length before + 1)) p e₂ ∙ e₃ in
     let whole : Holds b 0 ((inner ++ body) ++ rest) = subst (Holds b 0) (sym (append_assoc inner body rest)) g in
@@ -76,14 +78,21 @@ goes_through a b before after inner body rest x x₁ p q h g small e₁ e₂ e�
     let long : length (inner ++ body) ≡ length inner + length body = length-append inner body in
     let far : steps_to before (inner ++ body) ≡ steps_to before inner + length body = omega (arith, long) in
     record {
-      index = length inner;
-      steps = steps_to before inner;
       body_lies_in_the_callee_list = subst (λ (k : ℕ). Holds b k body) (omega arith) there.0;
       run_comes_to_the_body = comes_to a b before after inner (body ++ rest) x x₁ p h g small e₁ e₂;
       run_leaves_the_body = subst (λ (k : ℕ). Reaches a b (running Caller 0 x) k (length inner + length body) q) far (subst (λ (k : ℕ). Reaches a b (running Caller 0 x) (steps_to before (inner ++ body)) k q) long (comes_to a b before after (inner ++ body) rest x x₁ q h whole small e₁ through));
     }
 
-pub run_delivers_through_the_body : RunDeliversThroughTheBody
+-- a call that is ready, in lists that hold its code, with a budget of a step for each instruction: the run ends after so
+-- many steps, goes through the body, and delivers
+pub run_delivers_through_the_body :
+    (args results : List Holding) (kept : ℕ) (body : List Instruction) (b : ℕ) (x : Contents) → Ready args results kept body b x →
+    (caller callee : List Instruction) → Holds caller 0 (caller_code args results b) → Holds callee 0 (callee_code args results kept body) →
+    (budget : ℕ) → length (caller_code args results b) + length (callee_code args results kept body) ≤ budget →
+    (p q y : Contents)
+    × (runs caller callee budget (running Caller 0 x) ≡ ended y (length (caller_code args results b) + length (callee_code args results kept body)))
+    × BodyRuns caller callee (running Caller 0 x) body (index_of_body args results kept body) (steps_to_body args results kept body b) p q
+    × Delivers args results kept body b x p q y
 run_delivers_through_the_body args results kept body b x ready caller callee holds holds' budget enough =
     let rs : List ℕ = saved kept body in
     let f : ℕ = frame_bytes args results rs in
@@ -106,8 +115,3 @@ run_delivers_through_the_body args results kept body b x ready caller callee hol
       goes_through caller callee (before_call args b) (after_call args results b) (before_body args results rs f) body (after_body args results rs f ++ (Ret ∷ [])) x got.0 p q holds (subst (Holds callee 0) (append_assoc (before_body args results rs f) (body ++ after_body args results rs f) (Ret ∷ []) ∙ ap (λ (l : List Instruction). before_body args results rs f ++ l) (append_assoc body (after_body args results rs f) (Ret ∷ []))) holds') small got.5 got.6 got.10.body_runs_through,
       got.10,
     )
-
-pub run_delivers : RunDelivers
-run_delivers args results kept body b x ready caller callee holds holds' budget enough =
-    let run = run_delivers_through_the_body args results kept body b x ready caller callee holds holds' budget enough in
-    (run.0, run.1, run.2, run.3, run.5)

@@ -10,7 +10,7 @@ use Rattle.machine.specs.declared.Instruction.TheVariants.{Load, Store}
 use Rattle.machine.specs.declared.Width.TheVariants as Widths
 use Rattle.place.specs.Registers.{has}
 use Rattle.delivery.specs.Code.{offset, save_all, restore_all, written, saved_below, saved}
-use Rattle.delivery.specs.Delivering.{Sane}
+use Rattle.delivery.proofs.Ready.{Sane}
 use Rattle.delivery.specs.Widening.{byte_of}
 use Rattle.delivery.proofs.Leading.{Leads, leads_then, leads_weaker, Keeps, keeps_same, keeps_then, Every, But, Beside}
 use Rattle.delivery.proofs.Memory.{word_byte, word_below, same_bytes}

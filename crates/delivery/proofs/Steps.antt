@@ -9,7 +9,7 @@ use Rattle.machine.specs.declared.Instruction.{Instruction}
 use Rattle.machine.specs.declared.Instruction.TheVariants.{Load, Store}
 use Rattle.machine.specs.declared.Width.{Width}
 use Rattle.delivery.specs.Code.{offset, down, up}
-use Rattle.delivery.specs.Delivering.{Sane}
+use Rattle.delivery.proofs.Ready.{Sane}
 use Rattle.delivery.specs.Widening.{byte_of}
 use Rattle.delivery.proofs.Leading.{Leads, Keeps, Every, But, Beside}
 use Rattle.delivery.proofs.Memory.{stored_byte, stored_bytes}

@@ -16,7 +16,8 @@ use Rattle.values.specs.Sizes.{bytes}
 use Rattle.values.specs.declared.sizes.Size.{Size}
 use Rattle.values.specs.declared.sizes.Size.TheVariants.{One, Two, Four, Eight}
 use Rattle.delivery.specs.Code.{offset, home_size, home_bytes, moved, store_piece, store_pieces, store_all}
-use Rattle.delivery.specs.Delivering.{Sane, Fits, AllPieces, InRegister, Returned, ResultByte}
+use Rattle.delivery.proofs.Ready.{Sane, Fits, AllPieces, InRegister}
+use Rattle.delivery.specs.Delivering.{Returned, ResultByte}
 use Rattle.delivery.specs.Widening.{byte_of, widened_byte}
 use Rattle.delivery.proofs.Leading.{Leads, leads_then, leads_weaker, leads_end, Keeps, keeps_same, keeps_then, keeps_weaker, Every, Beside}
 use Rattle.delivery.proofs.Places.{PlaceHas, AllHave, Carried, all_carried, all_pieces_both, Sound, all_sound, register_carried, beside_part, outside}

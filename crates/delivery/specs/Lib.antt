@@ -1,4 +1,5 @@
 pub mod Widening
+pub mod CodeBy
 pub mod Code
 pub mod Bodies
 pub mod Delivering

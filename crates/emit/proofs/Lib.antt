@@ -4,3 +4,5 @@ mod Same
 mod Saved
 mod Searches
 pub mod Tested
+pub mod Bounds
+pub mod Asking

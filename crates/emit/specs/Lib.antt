@@ -1,3 +1,4 @@
 pub mod Emitting
+pub mod Faults
 pub mod Coding
 pub mod Registers

@@ -3,7 +3,7 @@ ghost use Rattle.std.specs.Prelude.{◌≡◌, ◌+◌, ◌≤◌, length, IfOk,
 ghost use Rattle.allocation.specs.States.{state};
 ghost use Rattle.delivery.specs.Bodies.{body_fault};
 ghost use Rattle.delivery.specs.Code.{home_bytes, saved, frame_bytes, callee_code};
-ghost use Rattle.emit.specs.Coding.{places_fault, or_body, callee_fault, Coded, fault_in};
+ghost use Rattle.emit.specs.Coding.{places_fault, or_body, callee_fault, Coded, fault_in, HoldsWhatRequestsGot, CalleeOffsetsAreWhole};
 
 use crate::checks::{check_body, check_places};
 use crate::faults::CodeFault;
@@ -30,6 +30,7 @@ impl<P: Stage, Q: Stage> Callee<'_, P, Q> {
     fn home_bytes(&self) -> u16
         ensures eight_for_each_place { result ≡ home_bytes (length (state P.Stage self.now.arguments.now).held + length (state Q.Stage self.now.results.now).held) }
         ensures at_most_256 { result ≤ 256 }
+        ensures at_most_sixteen_arguments { length (state P.Stage self.now.arguments.now).held ≤ 16 }
     {
         8 * (self.arguments.held().len() + self.results.held().len()) as u16
     }
@@ -40,7 +41,12 @@ impl<P: Stage, Q: Stage> SideCode for Callee<'_, P, Q> {
 
     ghost bytes = { λ c. frame_bytes (state P.Stage c.arguments.now).held (state Q.Stage c.results.now).held (saved c.kept.bits c.body.now) };
 
+    ghost places = { λ c. length (state P.Stage c.arguments.now).held + length (state Q.Stage c.results.now).held };
+
     ghost fault = { λ c. or_body (places_fault (state P.Stage c.arguments.now) (state Q.Stage c.results.now) c.kept.bits) (body_fault (home_bytes (length (state P.Stage c.arguments.now).held + length (state Q.Stage c.results.now).held)) c.body.now 0) };
+
+    // Sixteen arguments, four results and 28 saved registers.
+    ghost most = { 272 };
 
     fn check(&self) -> Result<(), CodeFault> {
         check_places(self.arguments, self.results, self.kept)?;
@@ -81,10 +87,10 @@ pub fn callee_size<P: Stage, Q: Stage>(
     body: &[Instruction],
     room: usize,
 ) -> Result<(usize, u32), CodeFault>
-    ensures lowest_number_first { fault_in result ≡ callee_fault (state P.Stage arguments.now) (state Q.Stage results.now) kept.bits body.now room }
+    ensures refused_by_the_first_test_that_fails { fault_in result ≡ callee_fault (state P.Stage arguments.now) (state Q.Stage results.now) kept.bits body.now room }
     ensures length_and_stack_bytes { IfOk result (λ x. (x.0 ≡ length (callee_code (state P.Stage arguments.now).held (state Q.Stage results.now).held kept.bits body.now)) × (x.1 ≡ frame_bytes (state P.Stage arguments.now).held (state Q.Stage results.now).held (saved kept.bits body.now))) }
     ensures within_the_room { IfOk result (λ x. x.0 ≤ room) }
-    ensures at_most_65536_stack_bytes { IfOk result (λ x. x.1 ≤ 65536) }
+    ensures few_stack_bytes { IfOk result (λ x. x.1 ≤ 272) }
     ensures body_of_at_most_256_instructions { OnOk result (length body.now ≤ 256) }
 {
     let callee = Callee {
@@ -104,8 +110,14 @@ pub fn callee_code<P: Stage, Q: Stage>(
     body: &[Instruction],
     code: &mut [Instruction],
 ) -> Result<(usize, u32), CodeFault>
-    ensures lowest_number_first { fault_in result ≡ callee_fault (state P.Stage arguments.now) (state Q.Stage results.now) kept.bits body.now (length code.old) }
+    ensures refused_by_the_first_test_that_fails { fault_in result ≡ callee_fault (state P.Stage arguments.now) (state Q.Stage results.now) kept.bits body.now (length code.old) }
     ensures code_at_the_front_and_the_rest_untouched { Coded (callee_code (state P.Stage arguments.now).held (state Q.Stage results.now).held kept.bits body.now) (frame_bytes (state P.Stage arguments.now).held (state Q.Stage results.now).held (saved kept.bits body.now)) code.old code.new result }
+    ensures few_stack_bytes { IfOk result (λ x. x.1 ≤ 272) }
+    ensures no_offset_is_cut_for_what_requests_got { OnOk result (
+        HoldsWhatRequestsGot (state P.Stage arguments.now)
+        → HoldsWhatRequestsGot (state Q.Stage results.now)
+        → CalleeOffsetsAreWhole (state P.Stage arguments.now) (state Q.Stage results.now)
+        kept.bits body.now) }
 {
     let callee = Callee {
         arguments,

@@ -1,8 +1,8 @@
 // The caller's code.
-ghost use Rattle.std.specs.Prelude.{◌≡◌, ◌≤◌, length, IfOk};
+ghost use Rattle.std.specs.Prelude.{◌≡◌, ◌+◌, ◌≤◌, length, IfOk, OnOk};
 ghost use Rattle.allocation.specs.States.{state};
 ghost use Rattle.delivery.specs.Code.{caller_code};
-ghost use Rattle.emit.specs.Coding.{block_bytes, places_fault, caller_fault, Coded, fault_in};
+ghost use Rattle.emit.specs.Coding.{block_bytes, places_fault, caller_fault, Coded, fault_in, HoldsWhatRequestsGot, RequestsGetWhatIsHeld, CallerOffsetsAreWhole};
 
 use crate::checks::check_places;
 use crate::faults::CodeFault;
@@ -28,7 +28,11 @@ impl<P: Stage, Q: Stage> SideCode for Caller<'_, P, Q> {
 
     ghost bytes = { λ c. block_bytes (state P.Stage c.arguments.now) };
 
+    ghost places = { λ c. length (state P.Stage c.arguments.now).held + length (state Q.Stage c.results.now).held };
+
     ghost fault = { λ c. places_fault (state P.Stage c.arguments.now) (state Q.Stage c.results.now) c.kept.bits };
+
+    ghost most = { 65536 };
 
     fn check(&self) -> Result<(), CodeFault> {
         check_places(self.arguments, self.results, self.kept)
@@ -61,10 +65,12 @@ pub fn caller_size<P: Stage, Q: Stage>(
     kept: RegisterSet,
     room: usize,
 ) -> Result<(usize, u32), CodeFault>
-    ensures lowest_number_first { fault_in result ≡ caller_fault (state P.Stage arguments.now) (state Q.Stage results.now) kept.bits room }
+    ensures refused_by_the_first_test_that_fails { fault_in result ≡ caller_fault (state P.Stage arguments.now) (state Q.Stage results.now) kept.bits room }
     ensures length_and_stack_bytes { IfOk result (λ x. (x.0 ≡ length (caller_code (state P.Stage arguments.now).held (state Q.Stage results.now).held (block_bytes (state P.Stage arguments.now)))) × (x.1 ≡ block_bytes (state P.Stage arguments.now))) }
     ensures within_the_room { IfOk result (λ x. x.0 ≤ room) }
     ensures at_most_65536_stack_bytes { IfOk result (λ x. x.1 ≤ 65536) }
+    ensures few_stack_bytes_for_what_requests_got { IfOk result (λ x.
+        HoldsWhatRequestsGot (state P.Stage arguments.now) → x.1 ≤ 4096) }
 {
     let caller = Caller {
         arguments,
@@ -81,8 +87,15 @@ pub fn caller_code<P: Stage, Q: Stage>(
     kept: RegisterSet,
     code: &mut [Instruction],
 ) -> Result<(usize, u32), CodeFault>
-    ensures lowest_number_first { fault_in result ≡ caller_fault (state P.Stage arguments.now) (state Q.Stage results.now) kept.bits (length code.old) }
+    ensures refused_by_the_first_test_that_fails { fault_in result ≡ caller_fault (state P.Stage arguments.now) (state Q.Stage results.now) kept.bits (length code.old) }
     ensures code_at_the_front_and_the_rest_untouched { Coded (caller_code (state P.Stage arguments.now).held (state Q.Stage results.now).held (block_bytes (state P.Stage arguments.now))) (block_bytes (state P.Stage arguments.now)) code.old code.new result }
+    ensures few_stack_bytes_for_what_requests_got { IfOk result (λ x.
+        HoldsWhatRequestsGot (state P.Stage arguments.now) → x.1 ≤ 4096) }
+    ensures no_offset_is_cut_for_what_requests_got { OnOk result (
+        HoldsWhatRequestsGot (state P.Stage arguments.now)
+        → CallerOffsetsAreWhole (state P.Stage arguments.now) (state Q.Stage results.now)) }
+    // The premise holds of each allocation that was opened, whatever it was asked for since.
+    ensures requests_get_what_is_held { RequestsGetWhatIsHeld }
 {
     let caller = Caller {
         arguments,

@@ -44,13 +44,13 @@ fn kept_clashes(kept: RegisterSet, arguments: RegisterSet, results: RegisterSet)
     kept.bits > 0x0FFF_FFFF || !kept.is_disjoint(arguments) || !kept.is_disjoint(results)
 }
 
-// What these places and this kept set forbid, lowest number first.
+// What these places and this kept set forbid: the kept set is tested first, then the results.
 pub(crate) fn check_places<P: Stage, Q: Stage>(
     arguments: &Frozen<P>,
     results: &Frozen<Q>,
     kept: RegisterSet,
 ) -> Result<(), CodeFault>
-    ensures lowest_number_first { fault_in result ≡ places_fault (state P.Stage arguments.now) (state Q.Stage results.now) kept.bits }
+    ensures refused_by_the_first_test_that_fails { fault_in result ≡ places_fault (state P.Stage arguments.now) (state Q.Stage results.now) kept.bits }
 {
     if kept_clashes(kept, arguments.registers(), results.registers()) {
         return Err(CodeFault::Kept);

@@ -1,5 +1,5 @@
 // The code of one side of a call, whichever it is.
-ghost use Rattle.std.specs.Prelude.{◌≡◌, ◌≤◌, ℕ, List, length, IfOk, None, Option};
+ghost use Rattle.std.specs.Prelude.{◌≡◌, ◌≤◌, ℕ, List, length, IfOk, OnOk, None, Option};
 ghost use Rattle.machine.specs.declared.Instruction.{Instruction};
 ghost use Rattle.stage.specs.Faults.{Fault};
 ghost use Rattle.emit.specs.Emitting.{Appends};
@@ -16,25 +16,33 @@ pub(crate) trait SideCode {
     // The stack bytes that the code takes.
     ghost bytes: { Self → ℕ };
 
+    // How many places it has.
+    ghost places: { Self → ℕ };
+
     // What forbids the code, however much room there is.
     ghost fault: { Self → Option Fault };
 
+    // The most stack bytes that code takes which nothing forbids.
+    ghost most: { ℕ };
+
     fn check(&self) -> Result<(), CodeFault>
-        ensures lowest_number_first { fault_in result ≡ fault self.now };
+        ensures refused_by_the_first_test_that_fails { fault_in result ≡ fault self.now };
 
     fn stack_bytes(&self) -> u32
         ensures its_stack_bytes { result ≡ bytes self.now }
-        ensures at_most_65536 { result ≤ 65536 };
+        ensures few_where_nothing_forbids_it { fault self.now ≡ None → result ≤ most };
 
     fn put(&self, records: &mut Records)
         requires allowed { fault self.now ≡ None }
         requires from_the_front { records.old.len ≡ 0 }
-        ensures the_whole_code { Appends (code self.now) records.old records.new };
+        ensures the_whole_code { Appends (code self.now) records.old records.new }
+        ensures few_places { places self.now ≤ 32 };
 }
 
 fn count<S: SideCode>(side: &S) -> usize
     requires allowed { S.fault side.now ≡ None }
     ensures its_length { result ≡ length (S.code side.now) }
+    ensures few_places { S.places side.now ≤ 32 }
 {
     // A pass over no list only counts the records.
     let mut records = Records::new(&mut []);
@@ -44,10 +52,11 @@ fn count<S: SideCode>(side: &S) -> usize
 
 // The length of the code and its stack bytes, by the rules a pair; it is refused where there is room for fewer records.
 pub(crate) fn size<S: SideCode>(side: &S, room: usize) -> Result<(usize, u32), CodeFault>
-    ensures lowest_number_first { fault_in result ≡ short_fault (S.fault side.now) (length (S.code side.now)) room }
+    ensures refused_by_the_first_test_that_fails { fault_in result ≡ short_fault (S.fault side.now) (length (S.code side.now)) room }
     ensures length_and_stack_bytes { IfOk result (λ x. (x.0 ≡ length (S.code side.now)) × (x.1 ≡ S.bytes side.now)) }
     ensures within_the_room { IfOk result (λ x. x.0 ≤ room) }
-    ensures at_most_65536_stack_bytes { IfOk result (λ x. x.1 ≤ 65536) }
+    ensures few_stack_bytes { IfOk result (λ x. x.1 ≤ S.most) }
+    ensures few_places { OnOk result (S.places side.now ≤ 32) }
 {
     side.check()?;
     let length = count(side);
@@ -62,8 +71,10 @@ pub(crate) fn write<S: SideCode>(
     side: &S,
     list: &mut [Instruction],
 ) -> Result<(usize, u32), CodeFault>
-    ensures lowest_number_first { fault_in result ≡ short_fault (S.fault side.now) (length (S.code side.now)) (length list.old) }
+    ensures refused_by_the_first_test_that_fails { fault_in result ≡ short_fault (S.fault side.now) (length (S.code side.now)) (length list.old) }
     ensures code_at_the_front_and_the_rest_untouched { Coded (S.code side.now) (S.bytes side.now) list.old list.new result }
+    ensures few_stack_bytes { IfOk result (λ x. x.1 ≤ S.most) }
+    ensures few_places { OnOk result (S.places side.now ≤ 32) }
 {
     let (length, bytes) = size(side, list.len())?;
     side.put(&mut Records::new(list));

@@ -15,7 +15,7 @@ use Rattle.stage.specs.Faults.{Fault}
 use Rattle.stage.specs.Lawful.{InSet}
 use Rattle.allocation.specs.States.{State}
 use Rattle.delivery.proofs.Places.{all_pieces_weaker}
-use Rattle.delivery.specs.Delivering.{Fits, InRegister, Spares, AllPieces}
+use Rattle.delivery.proofs.Ready.{Fits, InRegister, Spares, AllPieces}
 use Rattle.emit.specs.Coding.{code_fault_of, in_block_any, kept_clashes, results_forbidden, places_fault}
 use Rattle.emit.specs.declared.faults.CodeFault.TheVariants.{Kept, Results}
 

@@ -1,8 +1,9 @@
 -- How long the codes of a call are.
-use Rattle.std.proofs.Common.{◌≡◌, ℕ, ◌+◌, ◌*◌, ◌≤◌, ltb, List, [], ◌∷◌, length, refl, arith}
+use Rattle.std.proofs.Common.{◌≡◌, ℕ, ◌+◌, ◌*◌, ◌≤◌, ltb, List, [], ◌∷◌, length, None, refl, arith}
 use Rattle.std.proofs.lemmas.List.{length-append}
 use Rattle.std.proofs.lemmas.Bool.{cond_both}
 use Rattle.machine.specs.declared.Instruction.{Instruction}
+use Rattle.place.specs.Holdings.{Holding}
 use Rattle.place.specs.Pieces.{pieces}
 use Rattle.place.specs.declared.pieces.Piece.{Piece}
 use Rattle.place.specs.declared.pieces.Piece.TheVariants.{Register, Block}
@@ -12,9 +13,9 @@ use Rattle.values.specs.Sizes.{bytes}
 use Rattle.values.specs.declared.sizes.Size.{Size}
 use Rattle.delivery.proofs.Running.{each_short, fill_all_short}
 use Rattle.delivery.proofs.Saving.{saved_few}
-use Rattle.delivery.specs.Code.{copy_piece, copy_pieces, copy_place, store_register, store_piece, store_pieces, store_place, each_word, save_word, restore_word, home_bytes, saved, frame_bytes}
+use Rattle.delivery.specs.Bodies.{body_fault}
+use Rattle.delivery.specs.Code.{copy_piece, copy_pieces, copy_place, store_register, store_piece, store_pieces, store_place, each_word, save_word, restore_word, home_bytes, saved, frame_bytes, caller_code, callee_code}
 use Rattle.emit.proofs.Tested.{short_body}
-use Rattle.readiness.specs.Readiness.{CodesHaveAtMost512Records}
 
 -- a piece is copied by at most 2 instructions, and stored by at most 1
 copy_piece_short : (p : Piece) (f h : ℕ) → length (copy_piece f p h) ≤ 2
@@ -42,7 +43,11 @@ words_many : (code : ℕ → ℕ → Instruction) (rs : List ℕ) (h : ℕ) → 
 words_many code [] h = refl
 words_many code (r ∷ rs) h = omega (arith, words_many code rs (h + 4))
 
-pub codes_have_at_most_512_records : CodesHaveAtMost512Records
+-- a step for each record of both codes is at most 512
+pub codes_have_at_most_512_records :
+    (a r c d : List Holding) (b kept : ℕ) (body : List Instruction) → length a ≤ 16 → length r ≤ 4 → length c ≤ 16 → length d ≤ 4 →
+    body_fault (home_bytes (length c + length d)) body 0 ≡ None →
+    length (caller_code a r b) + length (callee_code c d kept body) ≤ 512
 codes_have_at_most_512_records a r c d b kept body la lr lc ld e =
     let rs : List ℕ = saved kept body in
     let f : ℕ = frame_bytes c d rs in

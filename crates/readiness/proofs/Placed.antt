@@ -5,19 +5,18 @@ use Rattle.std.specs.Option.{option_map, option_to_list}
 use Rattle.std.specs.List.{AllByRecursion}
 use Rattle.values.specs.declared.requests.Request.{Request}
 use Rattle.place.specs.Holdings.{Holding}
-use Rattle.place.specs.Pieces.{pieces, PlacesApart}
+use Rattle.place.specs.Pieces.{pieces, EachApart, Below}
 use Rattle.place.specs.declared.pieces.Place.{Place}
 use Rattle.stage.proofs.Runs.{lifted}
 use Rattle.stage.specs.Books.{Profile, said, used, after}
-use Rattle.stage.specs.Lawful.{InSet, Below, Granted, Lawful}
+use Rattle.stage.specs.Lawful.{InSet, Granted, Lawful}
 use Rattle.allocation.specs.Rules.{placed_by, reaching, placed}
 use Rattle.allocation.specs.States.{State, opened}
-use Rattle.histories.proofs.After.{lawful_after}
+use Rattle.histories.proofs.After.{placed_apart}
 use Rattle.histories.proofs.Granting.{Good, newly_good, good_all, held_grants, few}
 use Rattle.histories.specs.Histories.{Grant, grant, as_held, grant_by, grants, placed_all}
-use Rattle.histories.specs.Laws.{EachApart}
 use Rattle.allocation.specs.declared.asked.Asked.{Asked}
-use Rattle.delivery.specs.Delivering.{Fits, AllApart, AllPieces}
+use Rattle.delivery.proofs.Ready.{Fits, AllPieces}
 
 pub held_few : (p : Profile) (qs : List Asked) → length (placed_all (opened p) qs).held ≤ 16
 held_few p qs = few qs (opened p) (omega arith)
@@ -62,15 +61,6 @@ module _ (p : Profile) where
       let first = All-weaker (GrantedBy (used (placed_by s t).book)) (GrantedBy n) (granted_more (used (placed_by s t).book) n (used_all qs (placed s q) good)) (grant_by s t) (granted_by s t h) in
       All-append (GrantedBy n) (grant_by s t) (grants (placed s q) qs) first (granted_all qs (placed s q) good)
 
--- places that are apart, as they are held
-all_places : (P : Place → Type 0) (hs : List Holding) → AllByRecursion P (map (λ x. x.place) hs) → AllByRecursion (λ h. P h.place) hs
-all_places P [] a = tt
-all_places P (h ∷ hs) a = (a.0, all_places P hs a.1)
-
-all_apart : (hs : List Holding) → EachApart (map (λ x. x.place) hs) → AllApart hs
-all_apart [] a = tt
-all_apart (h ∷ hs) a = (all_places (PlacesApart h.place) hs a.0, all_apart hs a.1)
-
 -- what a newly opened allocation of a lawful pile holds after requests
 module _ (p : Profile) (qs : List Asked) (l : Lawful p.questions p.first) where
   abbrev filled : State
@@ -95,8 +85,8 @@ module _ (p : Profile) (qs : List Asked) (l : Lawful p.questions p.first) where
   pub held_below : AllPieces (Below (used filled.book)) filled.held
   held_below = each_held (λ h. AllByRecursion (Below (used filled.book)) (pieces h.place)) (λ g h. h.reach_lies_above_its_block_bytes)
 
-  pub held_apart : AllApart filled.held
-  held_apart = all_apart filled.held (lawful_after p (record { rounds = []; since = qs }) l).held_places_share_no_byte
+  pub held_apart : EachApart (map (λ x. x.place) filled.held)
+  held_apart = placed_apart p qs l
 
   pub used_at_most_4096 : used filled.book ≤ 4096
   used_at_most_4096 = ((good_all p qs (opened p) (newly_good p l)).1 []).reach_is_at_most_4096

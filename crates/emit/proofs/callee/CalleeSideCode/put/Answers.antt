@@ -48,4 +48,5 @@ returns g c =
           (appends_then loads (up f ∷ []) _ _ _ loaded
           (appends_same _ _ _ _ (ap (λ x. x ∷ []) c.stack_up.ensures.gives_the_bytes_back) c.put-2.ensures.one_record_more)))))
           c.put-3.ensures.one_record_more);
+      few_places = omega (arith, n, length-map c.held.result.now holding, ap length e, ap length h, c.held-arguments.ensures.at_most_sixteen, c.held.ensures.at_most_sixteen);
     }

@@ -1,4 +1,4 @@
-use Rattle.std.proofs.Common.{◌≡◌, ℕ, ◌+◌, ◌*◌, [], ◌∷◌, ◌++◌, map, length, sym, refl, ap}
+use Rattle.std.proofs.Common.{◌≡◌, ℕ, ◌+◌, ◌*◌, [], ◌∷◌, ◌++◌, map, length, sym, refl, ap, arith}
 use Rattle.std.proofs.lemmas.List.{length-map}
 use Rattle.machine.specs.declared.Instruction.TheVariants.{Call, Halt}
 use Rattle.allocation.specs.States.{state, holding}
@@ -29,4 +29,6 @@ returns g c =
           (appends_then (stores ++ (up b ∷ [])) (Halt ∷ []) _ _ _
           (appends_then stores (up b ∷ []) _ _ _ stored (appends_same _ _ _ _ (ap (λ x. x ∷ []) c.stack_up.ensures.gives_the_bytes_back) c.put-3.ensures.one_record_more))
           c.put-4.ensures.one_record_more))));
+      few_places =
+          omega (arith, length-map c.held-arguments.result.now holding, length-map c.held.result.now holding, ap length c.held-arguments.ensures.granted_since_opened_in_order, ap length c.held.ensures.granted_since_opened_in_order, c.held-arguments.ensures.at_most_sixteen, c.held.ensures.at_most_sixteen);
     }
