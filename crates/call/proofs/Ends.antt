@@ -1,15 +1,16 @@
 -- A call has one end.
-use Rattle.std.proofs.Common.{◌≡◌, ℕ, List, cond, Option, Some, None, Result, Ok, Err, refl, ap, sym, ◌∙◌, subst, length, nat_lt, arith}
+use Rattle.std.proofs.Common.{◌≡◌, ℕ, List, cond, Option, Some, None, Result, Ok, Err, refl, ap, sym, ◌∙◌, subst, nat_lt, arith}
 use Rattle.std.specs.Bool.{◌==◌}
 use Rattle.std.specs.Option.{unwrap_or}
 use Rattle.stage.specs.Faults.{Fault}
 use Rattle.allocation.specs.Faults.{cause_number, cause_line}
 use Rattle.allocation.specs.declared.faults.Cause.{Cause}
 use Rattle.allocation.specs.declared.faults.Cause.TheVariants.{NotAType, Full, Unsound, Refused}
+use Rattle.histories.specs.Heard.{Heard}
 use Rattle.emit.specs.Coding.{code_fault_of}
 use Rattle.emit.specs.declared.faults.CodeFault.{CodeFault}
 use Rattle.emit.specs.declared.faults.CodeFault.TheVariants.{Kept, Results, Body, TooShort}
-use Rattle.machine.specs.Machine.{Contents, running, runs, outcome_of}
+use Rattle.machine.specs.Machine.{Contents, Run, running, runs, outcome_of}
 use Rattle.machine.specs.declared.Instruction.{Instruction}
 use Rattle.machine.specs.declared.Outcome.{Outcome}
 use Rattle.machine.specs.declared.RunFault.TheVariants.{MemoryTooLarge}
@@ -18,8 +19,8 @@ use Rattle.call_faults.specs.declared.CallFault.{CallFault}
 use Rattle.call_faults.specs.declared.CallFault.TheVariants as Faults
 use Rattle.call.specs.declared.ran.Ran.{Ran}
 use Rattle.call.specs.Placing.{Sides}
-use Rattle.call.specs.Calls.{World, RunBy, CameOut, call_fault_of, call_line_of, fault_in, line_in, first_of, coding_fault}
-use Rattle.call.specs.Astray.{End, OneEndForEachSetting, placement_in}
+use Rattle.call.specs.Calls.{World, Standing, RunBy, run_of, CameOut, call_fault_of, call_line_of, fault_in, line_in, first_of, coding_fault}
+use Rattle.call.specs.Astray.{End, OneEndForEachSetting, placement_in, standing_in}
 
 -- a fault is read back from its number, its position and its line
 
@@ -33,7 +34,7 @@ abbrev call_fault_from : Fault → Option ℕ → CallFault
 call_fault_from f line =
     cond (nat_lt f.number 30) (Faults.Placement (record { cause = cause_from f.number line; position = f.position })) (cond (nat_lt f.number 50) (Faults.Code (code_from f)) (Faults.Run MemoryTooLarge))
 
-refusal_read_back : (n : ℕ) (c : Cause) → call_fault_from (record { number = cause_number c; position = n }) (cause_line c) ≡ Faults.Placement (record { cause = c; position = n })
+refusal_read_back : (n : ℕ) (c : Cause) → call_fault_from (record { layer = 2; number = cause_number c; position = n }) (cause_line c) ≡ Faults.Placement (record { cause = c; position = n })
 refusal_read_back n NotAType = refl
 refusal_read_back n Full = refl
 refusal_read_back n Unsound = refl
@@ -68,14 +69,15 @@ same_ran : (a a' b b' c c' d d' : ℕ) (o o' : Outcome) (n n' : ℕ) → a ≡ a
     ◌≡◌ {A = Ran} (record { caller_length = a; callee_length = b; block = c; frame = d; outcome = o; steps = n }) (record { caller_length = a'; callee_length = b'; block = c'; frame = d'; outcome = o'; steps = n' })
 same_ran a a' b b' c c' d d' o o' n n' e₁ e₂ e₃ e₄ e₅ e₆ = rw (e₁, e₂, e₃, e₄, e₅, e₆) refl
 
-module _ (s : Sides) (kept : ℕ) (body : List Instruction) (budget : ℕ) (old new new' : World) where
-  same_run : (r q : Ran) → RunBy s kept body budget old new r → RunBy s kept body budget old new' q → (new ≡ new') × (r ≡ q)
+module _ (z : Standing) (new new' : World) where
+  same_run : (r q : Ran) → RunBy z new r → RunBy z new' q → (new ≡ new') × (r ≡ q)
   same_run r q a b =
       let caller = a.caller_code_is_at_the_front_and_the_rest_untouched ∙ sym b.caller_code_is_at_the_front_and_the_rest_untouched in
       let callee = a.callee_code_is_at_the_front_and_the_rest_untouched ∙ sym b.callee_code_is_at_the_front_and_the_rest_untouched in
-      let contents = a.contents_are_those_at_the_end ∙ ap (λ (c : List Instruction). (runs c new.callee budget (running Caller 0 old.contents)).last.contents) caller ∙ ap (λ (d : List Instruction). (runs new'.caller d budget (running Caller 0 old.contents)).last.contents) callee ∙ sym b.contents_are_those_at_the_end in
-      let outcome = a.outcome_is_that_of_the_last_state ∙ ap (λ (c : List Instruction). outcome_of c new.callee (runs c new.callee budget (running Caller 0 old.contents)).last) caller ∙ ap (λ (d : List Instruction). outcome_of new'.caller d (runs new'.caller d budget (running Caller 0 old.contents)).last) callee ∙ sym b.outcome_is_that_of_the_last_state in
-      let steps = a.steps_are_those_of_the_run ∙ ap (λ (c : List Instruction). (runs c new.callee budget (running Caller 0 old.contents)).steps) caller ∙ ap (λ (d : List Instruction). (runs new'.caller d budget (running Caller 0 old.contents)).steps) callee ∙ sym b.steps_are_those_of_the_run in (
+      let run : run_of z new ≡ run_of z new' = ap (λ (c : List Instruction). runs c new.callee z.budget (running Caller 0 z.world.contents)) caller ∙ ap (λ (d : List Instruction). runs new'.caller d z.budget (running Caller 0 z.world.contents)) callee in
+      let contents = a.contents_are_those_at_the_end ∙ ap (λ (x : Run). x.last.contents) run ∙ sym b.contents_are_those_at_the_end in
+      let outcome = a.outcome_is_that_of_the_last_state ∙ ap (λ (x : Run). outcome_of new.caller new.callee x.last) run ∙ ap (λ (c : List Instruction). outcome_of c new.callee (run_of z new').last) caller ∙ ap (λ (d : List Instruction). outcome_of new'.caller d (run_of z new').last) callee ∙ sym b.outcome_is_that_of_the_last_state in
+      let steps = a.steps_are_those_of_the_run ∙ ap (λ (x : Run). x.steps) run ∙ sym b.steps_are_those_of_the_run in (
         same_world _ _ _ _ _ _ caller callee contents,
         same_ran _ _ _ _ _ _ _ _ _ _ _ _
             (a.length_of_the_caller_code ∙ sym b.length_of_the_caller_code)
@@ -86,24 +88,24 @@ module _ (s : Sides) (kept : ℕ) (body : List Instruction) (budget : ℕ) (old 
             steps,
       )
 
-  pub one_outcome : (x y : Result Ran CallFault) → CameOut s kept body budget old new x → CameOut s kept body budget old new' y → fault_in x ≡ fault_in y → line_in x ≡ line_in y → (new ≡ new') × (x ≡ y)
+  pub one_outcome : (x y : Result Ran CallFault) → CameOut z new x → CameOut z new' y → fault_in x ≡ fault_in y → line_in x ≡ line_in y → (new ≡ new') × (x ≡ y)
   one_outcome (Ok r) (Ok q) a b e l = let same = same_run r q a b in (same.0, ap Ok same.1)
   one_outcome (Ok r) (Err g) a b e l = absurd (none_is_no_fault (call_fault_of g) e)
   one_outcome (Err f) (Ok q) a b e l = absurd (none_is_no_fault (call_fault_of f) (sym e))
   one_outcome (Err f) (Err g) a b e l = (a ∙ sym b, ap Err (same_fault f g e l))
 
-same_end : (s s' : Sides) (w w' : World) (x x' : Result Ran CallFault) → s ≡ s' → w ≡ w' → x ≡ x' →
-    ◌≡◌ {A = End} (record { sides = s; world = w; answer = x }) (record { sides = s'; world = w'; answer = x' })
-same_end s s' w w' x x' e₁ e₂ e₃ = rw (e₁, e₂, e₃) refl
+same_end : (h h' : List Heard) (s s' : Sides) (w w' : World) (x x' : Result Ran CallFault) → h ≡ h' → s ≡ s' → w ≡ w' → x ≡ x' →
+    ◌≡◌ {A = End} (record { heard = h; sides = s; world = w; answer = x }) (record { heard = h'; sides = s'; world = w'; answer = x' })
+same_end h h' s s' w w' x x' e₀ e₁ e₂ e₃ = rw (e₀, e₁, e₂, e₃) refl
 
 pub one_end_for_each_setting : OneEndForEachSetting
 one_end_for_each_setting s e f a b =
     let sides : e.sides ≡ f.sides = a.sides_are_placed_by_the_rules ∙ sym b.sides_are_placed_by_the_rules in
     let fault : fault_in e.answer ≡ fault_in f.answer =
     a.refused_with_the_first_fault
-    ∙ ap (λ (z : Sides). first_of (placement_in s).core_results.fault (coding_fault z s.kept s.body (length s.world.caller) (length s.world.callee) (length s.world.contents.mem))) sides
+    ∙ ap (λ (z : Sides). first_of (placement_in s).core_results.fault (coding_fault (standing_in s z))) sides
     ∙ sym b.refused_with_the_first_fault in
     let line : line_in e.answer ≡ line_in f.answer = a.refusal_of_a_pile_has_the_blamed_line ∙ sym b.refusal_of_a_pile_has_the_blamed_line in
-    let first : CameOut f.sides s.kept s.body s.budget s.world e.world e.answer = subst (λ (z : Sides). CameOut z s.kept s.body s.budget s.world e.world e.answer) sides a.came_out_by_the_rules_of_code_and_machine in
-    let same = one_outcome f.sides s.kept s.body s.budget s.world e.world f.world e.answer f.answer first b.came_out_by_the_rules_of_code_and_machine fault line in
-    same_end _ _ _ _ _ _ sides same.0 same.1
+    let first : CameOut (standing_in s f.sides) e.world e.answer = subst (λ (z : Sides). CameOut (standing_in s z) e.world e.answer) sides a.came_out_by_the_rules_of_code_and_machine in
+    let same = one_outcome (standing_in s f.sides) e.world f.world e.answer f.answer first b.came_out_by_the_rules_of_code_and_machine fault line in
+    same_end _ _ _ _ _ _ _ _ (a.every_answer_before_was_by_the_rules_and_heard ∙ sym b.every_answer_before_was_by_the_rules_and_heard) sides same.0 same.1

@@ -1,12 +1,11 @@
 -- A list that was granted whole: each of its types is held, in order.
-use Rattle.std.proofs.Common.{◌≡◌, ℕ, suc, Bool, true, false, cond, leb, List, [], ◌∷◌, ◌++◌, map, length, Some, None, Ok, Err, Option, Result, sym, refl, ap, ◌∙◌, subst, arith, rules}
+use Rattle.std.proofs.Common.{◌≡◌, ℕ, Bool, true, false, cond, leb, List, [], ◌∷◌, ◌++◌, map, length, Some, None, Ok, Err, Option, Result, sym, refl, ap, ◌∙◌, subst, arith, rules}
 use Rattle.std.specs.Option.{option_map, option_to_list}
 use Rattle.values.specs.Kinds.{is_type}
 use Rattle.values.specs.Sizes.{bytes}
 use Rattle.values.specs.declared.kinds.Kind.{Kind}
 use Rattle.values.specs.declared.requests.Request.{Request}
 use Rattle.values.specs.declared.sizes.Size.{Size}
-use Rattle.place.specs.Holdings.{Holding}
 use Rattle.place.specs.declared.pieces.Place.{Place}
 use Rattle.stage.specs.Books.{Profile, said}
 use Rattle.stage.specs.Faults.{Fault}
@@ -17,13 +16,13 @@ use Rattle.histories.specs.Histories.{placed_all, grant, as_held, grant_by, gran
 use Rattle.allocation.specs.declared.asked.Asked.{Asked}
 use Rattle.histories.proofs.Granting.{held_grants}
 use Rattle.call.specs.Placing.{asked, fault_else, first_refused}
-use Rattle.call.specs.Astray.{HeldFor}
+use Rattle.call.specs.Standing.{HeldFor}
 
 -- a fault is found or not
 pub some_none : {X : Type 0} {A : Type 0} (x : X) → ◌≡◌ {A = Option X} (Some x) None → A
 some_none x e = let z : ◌≡◌ {A = ℕ} 0 1 = cc in absurd (omega arith)
 
-err_ok : {X Y A : Type 0} (x : X) (y : Y) → ◌≡◌ {A = Result X Y} (Err y) (Ok x) → A
+pub err_ok : {X Y A : Type 0} (x : X) (y : Y) → ◌≡◌ {A = Result X Y} (Err y) (Ok x) → A
 err_ok x y e = let z : ◌≡◌ {A = ℕ} 0 1 = cc in absurd (omega arith)
 
 -- the first is granted, and the rest too
@@ -65,12 +64,12 @@ reached_is held sound None r e = err_ok r 21 e
 reached_is held sound (Some x) r e = ap Some (let_through (leb 16 held) sound x r e)
 
 pile_says : (s : State) (o : Option Place) (p : Place) → pile_answer s o ≡ Ok p → o ≡ Some p
-pile_says s None p e = err_ok p (record { number = 24; position = length s.held }) e
+pile_says s None p e = err_ok p (record { layer = 2; number = 24; position = length s.held }) e
 pile_says s (Some z) p e = cc
 
 -- a place that is answered was given by the pile, for what reached it
 answer_is : (s : State) (t : Result Request ℕ) (p : Place) → answer_for s t ≡ Ok p → (r : Request) × (t ≡ Ok r) × (said s.book r ≡ Some p)
-answer_is s (Err n) p e = err_ok p (record { number = n; position = length s.held }) e
+answer_is s (Err n) p e = err_ok p (record { layer = 2; number = n; position = length s.held }) e
 answer_is s (Ok r) p e = (r, refl, pile_says s (said s.book r) p e)
 
 -- the grant of a request that was answered with a place
@@ -90,9 +89,3 @@ held_for (q ∷ qs) s e =
 
 pub placed_holds : (p : Profile) (qs : List Asked) → first_refused (opened p) qs ≡ None → HeldFor qs (placed_all (opened p) qs).held
 placed_holds p qs e = subst (HeldFor qs) (sym (held_grants qs (opened p))) (held_for qs (opened p) e)
-
-pub held_as_many : (qs : List Asked) (hs : List Holding) → HeldFor qs hs → length hs ≡ length qs
-held_as_many [] [] h = refl
-held_as_many [] (x ∷ hs) h = absurd h
-held_as_many (q ∷ qs) [] h = absurd h
-held_as_many (q ∷ qs) (x ∷ hs) h = ap suc (held_as_many qs hs h.2)

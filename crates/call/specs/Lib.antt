@@ -1,3 +1,4 @@
 pub mod Placing
 pub mod Calls
+pub mod Standing
 pub mod Astray

@@ -5,5 +5,5 @@ pub mod calls;
 mod placing;
 pub mod ran;
 mod ranges;
-mod running;
 pub mod sides;
+pub mod standing;

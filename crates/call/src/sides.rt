@@ -10,14 +10,6 @@ pub struct Side<A, R> {
     pub results: R,
 }
 
-// A pile, and what came to its allocation before: rounds that were frozen and reopened, and requests since.
-#[derive(Drop)]
-pub struct UsedPile<'r, 'q, 's, P> {
-    pub pile: P,
-    pub rounds: &'r [&'q [Asked]],
-    pub since: &'s [Asked],
-}
-
 // The types of a routine, each with the alignment to place it at, the registers that it keeps, and its body.
 #[derive(Clone, Copy, PartialEq, Eq, Debug)]
 pub struct Routine<'a, 'r, 'b> {

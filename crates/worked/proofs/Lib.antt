@@ -2,3 +2,4 @@ pub mod Turns
 pub mod Made
 pub mod EmptyCall
 pub mod Comes
+pub mod Delivered

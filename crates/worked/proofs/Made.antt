@@ -5,9 +5,8 @@ use Rattle.values.specs.Sizes.{bytes}
 use Rattle.values.specs.declared.sizes.Size.{Size}
 use Rattle.values.specs.declared.sizes.Size.TheVariants.{Four, Eight}
 use Rattle.stage.specs.Books.{Profile}
-use Rattle.adjust.specs.Adjusting.{changed, map_profile}
-use Rattle.adjust.specs.declared.Change.{Change}
-use Rattle.adjust.specs.declared.Change.TheVariants.{Width}
+use Rattle.adjust.specs.Adjusting.{map_profile}
+use Rattle.values.specs.Requests.{widened}
 use Rattle.allocation.specs.Faults.{Answer}
 use Rattle.blocks.specs.Blocks.{up_profile}
 use Rattle.allocation.specs.declared.asked.Asked.{Asked}
@@ -30,5 +29,5 @@ up_eight s e = ap up_profile (is_eight s e)
 pub over_made : (p p' q q' : Profile) → p ≡ p' → q ≡ q' → over_profile p q ≡ over_profile p' q'
 over_made p p' q q' e f = ap (λ x. over_profile x q) e ∙ ap (over_profile p') f
 
-pub widened_to_four : (c : Change) (s : Size) (p q : Profile) → c ≡ Width s → bytes s ≡ 4 → p ≡ q → map_profile (changed c) p ≡ map_profile (changed (Width Four)) q
-widened_to_four c s p q w e f = ap (λ x. map_profile (changed x) p) (w ∙ ap Width (is_four s e)) ∙ ap (map_profile (changed (Width Four))) f
+pub widened_to_four : (s : Size) (p q : Profile) → bytes s ≡ 4 → p ≡ q → map_profile (widened s) p ≡ map_profile (widened Four) q
+widened_to_four s p q e f = ap (λ x. map_profile (widened x) p) (is_four s e) ∙ ap (map_profile (widened Four)) f

@@ -72,7 +72,7 @@ in_block_twice o = Ok (Double (Block o Four) (Block (o + 4) Four))
 
 -- a refusal with its number and its position
 abbrev pub fault : ℕ → ℕ → Answer
-fault n position = Err (record { number = n; position = position })
+fault n position = Err (record { layer = 2; number = n; position = position })
 
 pub record WorkedCases : Type 0 where
   pub wide_pile_places_u1_s8_u2 : Gives wide (u1 ∷ s8 ∷ u2 ∷ []) (in_register 0 ∷ in_pair 2 3 ∷ in_block 0 ∷ []) 8

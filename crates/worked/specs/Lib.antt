@@ -1,3 +1,4 @@
 pub mod Trials
 pub mod Piles
 pub mod Cases
+pub mod Deliveries

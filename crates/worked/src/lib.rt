@@ -2,6 +2,7 @@
 #![tactic(auto)]
 
 pub mod cases;
+pub mod deliveries;
 mod piles;
 mod tables;
 mod trial;

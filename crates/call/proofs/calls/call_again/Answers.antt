@@ -1,3 +1,4 @@
+use Rattle.std.proofs.Common.{refl}
 use Rattle.call.proofs.Steps.{same_sides}
 use Rattle.call.proofs.Astrays.{nothing_goes_astray_from}
 use Rattle.call.proofs.Ends.{one_end_for_each_setting}
@@ -6,6 +7,8 @@ use Rattle.call.proofs.calls.call_again.Goals as goal
 pub returns : goal.returns
 returns g c =
     let did = c.place_and_run.ensures in
+    let bench = c.reopen_side-bench.ensures in
+    let core = c.reopen_side-core.ensures in
     record {
       nothing_goes_astray = nothing_goes_astray_from _ _
           (record {
@@ -14,13 +17,13 @@ returns g c =
             core_arguments = g.met.C.Stage.lawful c.args.core.arguments.pile;
             core_results = g.met.D.Stage.lawful c.args.core.results.pile;
           })
-          (record { registers_are_32 = c.told-registers; registers_have_32_bits = c.fits-registers; bytes_have_8_bits = c.know_bytes.ensures.each_has_8_bits })
-          c.read_numbers.ensures.each_has_32_bits
+          refl
           _
-          (same_sides _ _ _ _ _ _ _ _ c.reopen_side-bench.ensures.arguments_newly_opened c.reopen_side-bench.ensures.results_newly_opened c.reopen_side-core.ensures.arguments_newly_opened c.reopen_side-core.ensures.results_newly_opened)
+          (same_sides _ _ _ _ _ _ _ _ bench.arguments_newly_opened bench.results_newly_opened core.arguments_newly_opened core.results_newly_opened)
           did.sides_are_placed_by_the_rules
           did.refused_with_the_first_fault
           did.pile_refusal_has_the_blamed_line
-          did.comes_out_by_the_rules;
+          did.comes_out_by_the_rules
+          did.what_both_sides_hold_is_delivered;
       what_it_leaves_and_answers_follows_from_what_it_starts_from = one_end_for_each_setting;
     }

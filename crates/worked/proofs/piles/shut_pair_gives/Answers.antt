@@ -1,14 +1,13 @@
 use Rattle.std.proofs.Common.{ap, ◌∙◌}
-use Rattle.banks.specs.Banks.{bits_profile}
 use Rattle.shut.specs.Shutting.{shut_profile}
 use Rattle.worked.proofs.Made.{told, up_eight, over_made}
 use Rattle.worked.proofs.piles.shut_pair_gives.Goals as goal
 
 pub returns : goal.returns
 returns c =
-    let bits = ap bits_profile c.in_ok-bits.ensures.starts_with_the_list.0 in
-    let shut = ap (shut_profile 0) (c.new-3.ensures.stage_below_is_cleared.profile_stays ∙ bits) in
-    let up = up_eight _ c.in_ok-up.ensures.starts_empty_with_the_limit.0 in
-    let sides = c.new-pile.ensures in
-    let pile = over_made _ _ _ _ (sides.first_is_cleared.profile_stays ∙ shut) (sides.second_is_cleared.profile_stays ∙ up) in
+    let bits = c.in_ok-bits.ensures.means_bits.profile_stays in
+    let shut = c.new-3.ensures.means_shut.profile_stays ∙ ap (shut_profile 0) bits in
+    let block = c.in_ok-up.ensures.means_up in
+    let up = block.2.profile_stays ∙ up_eight block.0 block.1 in
+    let pile = c.new-pile.ensures.means_over.profile_stays ∙ over_made _ _ _ _ shut up in
     record { whether_it_gives_what_is_expected = told _ _ c.gives.result _ _ c.args.block pile c.gives.ensures.whether_it_gives_what_is_expected }
