@@ -1,9 +1,10 @@
 pub mod Planning
+pub mod Making
 pub mod Naming
 pub mod Taking
 pub mod Counting
 pub mod MoreRead
-pub mod WithStage
 pub mod ReadLine
 pub mod Ending
 pub mod Progress
+pub mod Building

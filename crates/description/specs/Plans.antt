@@ -1,21 +1,25 @@
--- What a plan makes of the stages below.
-use Rattle.std.specs.Prelude.{◌≡◌, ℕ, Option, Some, None}
+-- What a plan makes of the stages below, and what plans make one behind the other.
+use Rattle.std.specs.Prelude.{◌≡◌, ℕ, ◌+◌, true, List, [], ◌∷◌, ◌++◌, length, Option, Some, None}
+use Rattle.std.specs.List.{slice_index}
 use Rattle.stage.specs.Books.{Profile}
 use Rattle.adjust.specs.Adjusting.{changed, map_profile}
+use Rattle.conditions.specs.Tests.{meets}
 use Rattle.sides.specs.Sides.{choose_profile, over_profile}
 use Rattle.shut.specs.Shutting.{shut_profile}
 use Rattle.described.specs.Piles.{pile_profile, AtStart}
 use Rattle.described.specs.declared.pile.Pile.{Pile}
+use Rattle.pages.specs.Rules.{are_free}
 use Rattle.pages.specs.Table.{below_of}
 use Rattle.pages.specs.declared.lines.StageLine.{StageLine}
-use Rattle.description.specs.Profiles.{profile_by}
+use Rattle.description.specs.Profiles.{profile_by, stage_at}
 use Rattle.description.specs.declared.plan.Plan.{Plan}
 use Rattle.description.specs.declared.plan.Plan.TheVariants.{Bottom, Adjust, Choose, Over, Shut}
+use Rattle.description.specs.declared.plan.Planned.{Planned}
 
 abbrev pub made_by : ℕ → Plan → Profile → Profile → Profile
 made_by line (Bottom pile) a b = pile_profile pile
 made_by line (Adjust change) a b = map_profile (changed change) a
-made_by line (Choose test) a b = choose_profile test a b
+made_by line (Choose test) a b = choose_profile (meets test) a b
 made_by line Over a b = over_profile a b
 made_by line Shut a b = shut_profile line a
 
@@ -53,3 +57,21 @@ AreBelow (Adjust change) x y a b = IsBelow x a
 AreBelow (Choose test) x y a b = IsBelow x a × IsBelow y b
 AreBelow Over x y a b = IsBelow x a × IsBelow y b
 AreBelow Shut x y a b = IsBelow x a
+
+-- a plan that can be carried out behind n stages of which lines have named some
+pub record CanBeBuilt (n : ℕ) (named : List ℕ) (p : Planned) : Type 0 where
+  pub begins : Begins p.plan
+  pub needs_the_stages_that_it_names : needs p.plan ≡ length p.below.items
+  pub names_free_stages : are_free n named p.below.items ≡ true
+
+-- the stage that a plan makes behind others
+abbrev pub made_behind : List Profile → Planned → Profile
+made_behind stages p =
+    made_by (length stages + 1) p.plan (stage_at stages (slice_index p.below.items 0)) (stage_at stages (slice_index p.below.items 1))
+
+-- plans that can be carried out one by one, behind stages of which lines have named some; then these are all stages, and
+-- those all that are named
+abbrev pub Make : List Planned → List Profile → List ℕ → List Profile → List ℕ → Type 0
+Make [] stages named all names = (stages ≡ all) × (named ≡ names)
+Make (p ∷ ps) stages named all names =
+    CanBeBuilt (length stages) named p × Make ps (stages ++ made_behind stages p ∷ []) (named ++ p.below.items) all names

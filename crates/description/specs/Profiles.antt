@@ -1,16 +1,15 @@
 -- What the stages of a page are: each with the meaning of the stage that is built in, on its line.
-use Rattle.std.specs.Prelude.{ℕ, ◌+◌, ◌-◌, cond, List, [], ◌∷◌, ◌++◌, length, nat_eq}
+use Rattle.std.specs.Prelude.{ℕ, ◌+◌, ◌-◌, Bool, false, cond, List, [], ◌∷◌, ◌++◌, length, nat_eq}
 use Rattle.std.specs.List.{slice_index, slice_index_or}
+use Rattle.values.specs.Requests.{widened, raised}
+use Rattle.values.specs.declared.requests.Request.{Request}
 use Rattle.values.specs.declared.sizes.Size.{Size}
 use Rattle.values.specs.declared.sizes.Size.TheVariants.{One, Two, Four, Eight}
 use Rattle.stage.specs.Books.{Profile}
 use Rattle.banks.specs.Banks.{count_profile, bits_profile}
 use Rattle.blocks.specs.Blocks.{up_profile}
-use Rattle.adjust.specs.Adjusting.{changed, map_profile}
-use Rattle.adjust.specs.declared.Change.TheVariants as changes
-use Rattle.conditions.specs.Tests.{no_kinds, with_kinds}
-use Rattle.conditions.specs.declared.Rule.TheVariants as rules
-use Rattle.conditions.specs.declared.Test.{Test}
+use Rattle.adjust.specs.Adjusting.{map_profile}
+use Rattle.conditions.specs.Tests.{is_of_kinds, is_at_least}
 use Rattle.sides.specs.Sides.{choose_profile, over_profile}
 use Rattle.shut.specs.Shutting.{shut_profile}
 use Rattle.described.specs.Piles.{lined}
@@ -39,19 +38,19 @@ size_in (Number n) = size_of n
 size_in (Kinds ks) = One
 size_in Nothing = One
 
-abbrev pub test_in : Parameter → Test
-test_in (Registers rs) = record { rule = rules.Kinds no_kinds }
-test_in (Number n) = record { rule = rules.AtLeast (size_of n) }
-test_in (Kinds ks) = record { rule = rules.Kinds (with_kinds no_kinds ks.items) }
-test_in Nothing = record { rule = rules.Kinds no_kinds }
+abbrev pub test_in : Parameter → Request → Bool
+test_in (Registers rs) r = false
+test_in (Number n) r = is_at_least n r
+test_in (Kinds ks) r = is_of_kinds ks.items r
+test_in Nothing r = false
 
 -- a stage on a line, by its word and its parameter, and by the first and the second stage below
 abbrev pub profile_by : ℕ → StageWord → Parameter → Profile → Profile → Profile
 profile_by line Count p a b = lined line (count_profile (registers_in p))
 profile_by line Bits p a b = lined line (bits_profile (registers_in p))
 profile_by line Up p a b = lined line (up_profile (size_in p))
-profile_by line Widen p a b = map_profile (changed (changes.Width (size_in p))) a
-profile_by line Raise p a b = map_profile (changed (changes.Alignment (size_in p))) a
+profile_by line Widen p a b = map_profile (widened (size_in p)) a
+profile_by line Raise p a b = map_profile (raised (size_in p)) a
 profile_by line Choose p a b = choose_profile (test_in p) a b
 profile_by line Over p a b = over_profile a b
 profile_by line Shut p a b = shut_profile line a

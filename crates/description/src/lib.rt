@@ -2,6 +2,7 @@
 #![tactic(auto)]
 
 pub mod description;
+mod draft;
 mod plan;
 mod reading;
 mod stages;

@@ -1,22 +1,22 @@
-// The stages that were read, until a later line names them.
-ghost use Rattle.std.specs.Prelude.{◌≡◌, ◌<◌, ◌≤◌, [], ◌∷◌, ◌++◌, ℕ, List, true, false, length, nat_le, MatchOption};
+// The piles of the stages that were built, until one above is built of them.
+ghost use Rattle.std.specs.Prelude.{◌≡◌, ◌<◌, ◌≤◌, [], ◌∷◌, ◌++◌, ℕ, List, true, false, length, MatchOption};
 ghost use Rattle.stage.specs.Books.{Profile};
 ghost use Rattle.described.specs.Piles.{AtStart};
-ghost use Rattle.pages.specs.Rules.{is_free, are_free, all_used};
+ghost use Rattle.pages.specs.Rules.{is_free, are_free};
 ghost use Rattle.description.specs.Profiles.{stage_at};
 ghost use Rattle.description.specs.Stages.{HasStages, AreTaken};
 
 use arrayvec::ArrayVec;
 use described::pile::Pile;
 
-// By their lines, in order; none where a line has named the stage.
+// By their lines, in order; none where a stage above, or the description, has taken the pile.
 #[derive(Drop)]
 pub(crate) struct Stages {
     free: ArrayVec<Option<Pile>, 24>,
 }
 
 impl Stages {
-    // The stage of a line, if no line has named it.
+    // The pile of a stage, if it is there.
     pub(crate) fn take(&mut self, number: u8) -> Option<Pile>
         ensures a_free_stage_or_none { (stages : List Profile) (named : List ℕ) → HasStages stages named self.old → MatchOption result (is_free (length stages) named number ≡ false) (λ pile. (is_free (length stages) named number ≡ true) × AtStart (stage_at stages number) pile × HasStages stages (named ++ number ∷ []) self.new) }
     {
@@ -56,29 +56,10 @@ impl Stages {
         self.free.len()
     }
 
-    // Whether there is no room for one more.
-    pub(crate) fn is_full(&self) -> bool
-        ensures whether_there_are_24 { result ≡ nat_le 24 (length self.now.free.items) }
-    {
-        self.free.is_full()
-    }
-
     pub(crate) fn push(&mut self, pile: Pile)
         requires room_for_one_more { length self.now.free.items < 24 }
         ensures one_stage_more { (stages : List Profile) (named : List ℕ) (p : Profile) → HasStages stages named self.old → AtStart p pile → HasStages (stages ++ p ∷ []) named self.new }
     {
         self.free.push(Some(pile));
-    }
-
-    // Whether each stage was named.
-    pub(crate) fn all_named(&self) -> bool
-        ensures whether_each_was_named { (stages : List Profile) (named : List ℕ) → HasStages stages named self.now → result ≡ all_used (length stages) named }
-    {
-        for slot in self.free.as_slice() {
-            if slot.is_some() {
-                return false;
-            }
-        }
-        true
     }
 }

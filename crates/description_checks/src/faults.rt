@@ -383,3 +383,35 @@ fn the_first_line_at_fault_and_its_lowest_number_decide(rt: HostRuntime) -> Resu
     ];
     faults(&rt, rt.alloc(), "", &table)
 }
+
+// Nothing here asks for memory but the reading, and it asks for none before all lines are checked. So the faults are these
+// whichever allocation fails, as under `rt try --test --fail-alloc N`.
+#[test]
+fn faults_behind_a_layer_are_found_whatever_memory_there_is(rt: HostRuntime) {
+    let heap = rt.alloc();
+    let table = [
+        ("up 8\nshut 1\nxyz\n", 2, 3),
+        ("up 8\nshut 1\nup 3\n", 3, 3),
+        ("up 8\nshut 1\nshut 1\n", 4, 3),
+        ("up 8\nshut 1\n", 5, 2),
+        ("up 8\nup 8\nover 1 2\nwiden 4 3\nargs 4\nresults 3\n", 4, 6),
+        ("up 8\nup 8\nshut 1\nargs 3\nresults 2\nkeep r28\n", 3, 6),
+        ("up 8\nup 8\nshut 1\nargs 3\nresults 2\nkeep\nkeep\n", 2, 7),
+    ];
+    for (text, number, line) in table {
+        assert_eq!(rt;
+            fault(text.as_bytes(), heap),
+            Some((number, line)),
+            "{}",
+            text
+        );
+    }
+}
+
+// A proper text has no fault with a number: it is read, or memory is wanting.
+#[test]
+fn a_proper_text_is_read_or_wants_memory(rt: HostRuntime) {
+    let heap = rt.alloc();
+    let text = b"up 8\nup 8\nshut 1\nargs 3\nresults 2\nkeep\n";
+    assert_eq!(rt; fault(text, heap).unwrap_or((0, 0)), (0, 0));
+}

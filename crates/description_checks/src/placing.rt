@@ -1,5 +1,4 @@
-// What a described pile answers, beside what it should.
-use described::pile::Pile;
+// What a pile answers, beside what it should.
 use stage::Stage;
 use std::alloc::{AllocError, Global};
 use std::process::Abort;
@@ -7,7 +6,7 @@ use std::test::Fail;
 use values::value_type::ValueType;
 
 // The answer as text: a place, or the line of the stage that refused.
-fn answer(heap: Global, pile: &mut Pile, value: ValueType) -> Result<String, AllocError> {
+fn answer<P: Stage>(heap: Global, pile: &mut P, value: ValueType) -> Result<String, AllocError> {
     match pile.place(value.request()) {
         Ok(place) => format!(in heap; "{place}"),
         Err(refusal) => format!(in heap; "line {}", refusal.line),
@@ -15,10 +14,10 @@ fn answer(heap: Global, pile: &mut Pile, value: ValueType) -> Result<String, All
 }
 
 // Each word's type goes, at its own alignment, to the place beside it.
-pub(crate) fn places(
+pub(crate) fn places<P: Stage>(
     rt: &impl Abort,
     heap: Global,
-    pile: &mut Pile,
+    pile: &mut P,
     table: &[(&str, &str)],
 ) -> Result<(), Fail> {
     for (word, place) in table {

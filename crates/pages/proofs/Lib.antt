@@ -5,3 +5,4 @@ pub mod Bytes
 pub mod Steps
 pub mod Grammar
 pub mod Proper
+pub mod Forms

@@ -1,5 +1,5 @@
 pub mod Table
 pub mod Lines
 pub mod Pages
-pub mod Rules
 pub mod Faults
+pub mod Rules

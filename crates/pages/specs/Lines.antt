@@ -1,5 +1,5 @@
 -- The lines of a page: the words that write each, and the line that words write.
-use Rattle.std.specs.Prelude.{◌≡◌, ℕ, ◌<◌, ◌≤◌, cond, List, [], ◌∷◌, ◌++◌, length, map, Option, Some, None, option_map, nat_eq, nat_le, codes, is_none}
+use Rattle.std.specs.Prelude.{◌≡◌, ℕ, ◌<◌, ◌≤◌, cond, List, [], ◌∷◌, ◌++◌, length, map, Option, Some, None, Result, Ok, Err, option_map, nat_eq, nat_le, codes, is_none}
 use Rattle.std.specs.List.{find, join_with_byte, AllByRecursion}
 use Rattle.std.specs.Option.{option_and_then, option_or}
 use Rattle.std.specs.Str.{bytes_eq}
@@ -10,6 +10,8 @@ use Rattle.conditions.specs.Tests.{kinds_fault}
 use Rattle.texts.specs.Lists.{all_of, all_of_at_most, listed}
 use Rattle.texts.specs.Words.{number_word, register_word, number_of, register_of}
 use Rattle.pages.specs.Table.{word_of, form_of, below_of, stage_with}
+use Rattle.pages.specs.declared.faults.Cause.{Cause}
+use Rattle.pages.specs.declared.faults.Cause.TheVariants as faults
 use Rattle.pages.specs.declared.table.Form.{Form}
 use Rattle.pages.specs.declared.table.Form.TheVariants as forms
 use Rattle.pages.specs.declared.table.StageWord.{StageWord}
@@ -78,8 +80,8 @@ test_of w = option_or (option_map Number (number_of w)) (option_map (λ ks. Kind
 abbrev pub registers_of : List (List ℕ) → Option Parameter
 registers_of ws = cond (nat_le 1 (length ws)) (option_map (λ rs. Registers (listed rs)) (all_of_at_most 16 register_of ws)) None
 
--- a parameter that the first word stands for, and the words behind it
-abbrev pub first_of : (List ℕ → Option Parameter) → List (List ℕ) → Option (Parameter × List (List ℕ))
+-- what the first word stands for, and the words behind it
+abbrev pub first_of : {X : Type 0} → (List ℕ → Option X) → List (List ℕ) → Option (X × List (List ℕ))
 first_of f [] = None
 first_of f (w ∷ ws) = option_map (λ p. (p, ws)) (f w)
 
@@ -117,3 +119,8 @@ line_by None w ws = closing_of w ws
 abbrev pub line_of : List (List ℕ) → Option Line
 line_of [] = None
 line_of (w ∷ ws) = line_by (stage_with w) w ws
+
+-- what has the form; or the fault that it has not
+abbrev pub of_the_form : {X : Type 0} → Option X → Result X Cause
+of_the_form None = Err faults.Form
+of_the_form (Some x) = Ok x

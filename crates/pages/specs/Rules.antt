@@ -3,13 +3,11 @@ use Rattle.std.specs.Prelude.{◌≡◌, ℕ, zero, suc, ◌+◌, Bool, true, fa
 use Rattle.std.specs.List.{list_any}
 use Rattle.stage.specs.Faults.{Fault}
 use Rattle.texts.specs.Parts.{parts}
+pub use Rattle.pages.specs.Faults.{fault}
 use Rattle.pages.specs.Lines.{line_of}
 use Rattle.pages.specs.Pages.{Page, IsProper, page_lines, text_of, is_in_range, named, all_named}
 use Rattle.pages.specs.declared.lines.Line.{Line}
 use Rattle.pages.specs.declared.lines.Line.TheVariants.{Stage, Arguments, Results, Kept}
-
-abbrev pub fault : ℕ → ℕ → Fault
-fault n line = record { number = n; position = line }
 
 -- how many of the lines are stages, and how many are not
 abbrev pub is_stage : Line → Bool

@@ -1,10 +1,14 @@
 // The lines of a page, read from their words.
-ghost use Rattle.std.specs.Prelude.{◌≡◌, ◌≤◌, [], option_map, OnSome};
+ghost use Rattle.std.specs.Prelude.{◌≡◌, ◌≤◌, [], option_map, OnSome, IfErr};
+ghost use Rattle.std.specs.Result.{result_ok};
 ghost use Rattle.texts.specs.Lists.{listed, all_of_at_most};
 ghost use Rattle.texts.specs.Parts.{parts, parts_left};
 ghost use Rattle.pages.specs.Table.{IsTheEntry};
-ghost use Rattle.pages.specs.Lines.{number_alone, kinds_of, test_of, registers_of, parameter_of, below_of_the_words, stage_of, closing_of, line_of};
+ghost use Rattle.texts.specs.Words.{number_of};
+ghost use Rattle.pages.specs.declared.faults.Cause.TheVariants as causes;
+ghost use Rattle.pages.specs.Lines.{of_the_form, first_of, number_alone, kinds_of, test_of, registers_of, parameter_of, below_of_the_words, stage_of, closing_of, line_of};
 
+use crate::faults::Cause;
 use crate::table::{Entry, Form, StageWord, entry_with};
 use arrayvec::ArrayVec;
 use conditions::Test;
@@ -45,25 +49,28 @@ pub enum Line {
 }
 
 // The kinds whose letters a word has, one at least and none twice.
-fn read_kinds(word: &[u8]) -> Option<ArrayVec<Kind, 4>>
-    ensures the_kinds_or_none { result ≡ option_map listed (kinds_of word.now) }
+fn read_kinds(word: &[u8]) -> Result<ArrayVec<Kind, 4>, Cause>
+    ensures the_kinds_or_a_fault_of_form { result ≡ of_the_form (option_map listed (kinds_of word.now)) }
 {
     let mut list = ArrayVec::new();
     for letter in word {
-        list.try_push(Kind::try_from(char::from(*letter)).ok()?)
-            .ok()?;
+        let kind = Kind::try_from(char::from(*letter))?;
+        if list.is_full() {
+            return Err(Cause::Form);
+        }
+        list.push(kind);
     }
-    Test::of_kinds(list.as_slice()).ok()?;
-    Some(list)
+    Test::of_kinds(list.as_slice())?;
+    Ok(list)
 }
 
 // What a layer chooses by: a width, or kinds.
-fn read_test(word: &[u8]) -> Option<Parameter>
-    ensures a_number_or_else_kinds { result ≡ test_of word.now }
+fn read_test(word: &[u8]) -> Result<Parameter, Cause>
+    ensures a_number_or_else_kinds { result ≡ of_the_form (test_of word.now) }
 {
     match number(word) {
-        Some(width) => Some(Parameter::Number(width)),
-        None => Some(Parameter::Kinds(read_kinds(word)?)),
+        Some(width) => Ok(Parameter::Number(width)),
+        None => Ok(Parameter::Kinds(read_kinds(word)?)),
     }
 }
 
@@ -79,15 +86,23 @@ fn read_registers(words: &mut Parts) -> Option<Parameter>
     Some(Parameter::Registers(list))
 }
 
+// The number that the next word is.
+fn read_number(words: &mut Parts) -> Option<u8>
+    ensures the_first_word_and_the_words_behind_it { option_map (λ n. (n, parts_left words.new)) result ≡ first_of number_of (parts_left words.old) }
+{
+    number(words.next_part()?)
+}
+
 // The parameter of a form, from the first of the words; the registers of a bank are all of them.
-fn read_parameter(form: Form, words: &mut Parts) -> Option<Parameter>
-    ensures the_parameter_and_the_words_behind_it { option_map (λ p. (p, parts_left words.new)) result ≡ parameter_of form (parts_left words.old) }
+fn read_parameter(form: Form, words: &mut Parts) -> Result<Parameter, Cause>
+    ensures the_parameter_and_the_words_behind_it { option_map (λ p. (p, parts_left words.new)) (result_ok result) ≡ parameter_of form (parts_left words.old) }
+    ensures or_a_fault_of_form { IfErr result (λ c. c ≡ causes.Form) }
 {
     match form {
-        Form::Registers => read_registers(words),
-        Form::Number => Some(Parameter::Number(number(words.next_part()?)?)),
-        Form::Test => read_test(words.next_part()?),
-        Form::Nothing => Some(Parameter::Nothing),
+        Form::Registers => read_registers(words).ok_or(Cause::Form),
+        Form::Number => Ok(Parameter::Number(read_number(words).ok_or(Cause::Form)?)),
+        Form::Test => read_test(words.next_part().ok_or(Cause::Form)?),
+        Form::Nothing => Ok(Parameter::Nothing),
     }
 }
 
@@ -104,13 +119,13 @@ fn read_below(count: usize, words: &mut Parts) -> Option<ArrayVec<u8, 2>>
 }
 
 // What follows a stage word.
-fn read_stage(entry: &Entry, words: &mut Parts) -> Option<StageLine>
+fn read_stage(entry: &Entry, words: &mut Parts) -> Result<StageLine, Cause>
     requires entry_is_right { IsTheEntry entry.now }
-    ensures the_stage_or_none { result ≡ stage_of entry.now.stage (parts_left words.old) }
+    ensures the_stage_or_a_fault_of_form { result ≡ of_the_form (stage_of entry.now.stage (parts_left words.old)) }
 {
     let parameter = read_parameter(entry.parameter, words)?;
-    let below = read_below(entry.below, words)?;
-    Some(StageLine {
+    let below = read_below(entry.below, words).ok_or(Cause::Form)?;
+    Ok(StageLine {
         stage: entry.stage,
         parameter,
         below,
@@ -121,7 +136,7 @@ fn read_stage(entry: &Entry, words: &mut Parts) -> Option<StageLine>
 fn read_root(words: &mut Parts) -> Option<u8>
     ensures the_number_alone_or_none { result ≡ number_alone (parts_left words.old) }
 {
-    let root = number(words.next_part()?)?;
+    let root = read_number(words)?;
     match words.next_part() {
         Some(_) => None,
         None => Some(root),
@@ -145,14 +160,14 @@ fn read_closing(word: &[u8], words: &mut Parts) -> Option<Line>
 
 impl Line {
     // The line that the words make, if they have the form.
-    pub fn read(line: &[u8]) -> Option<Line>
-        ensures the_line_of_its_words_or_none { result ≡ line_of (parts 32 line.now) }
+    pub fn read(line: &[u8]) -> Result<Line, Cause>
+        ensures the_line_of_its_words_or_a_fault_of_form { result ≡ of_the_form (line_of (parts 32 line.now)) }
     {
         let mut words = Parts::words(line);
-        let word = words.next_part()?;
+        let word = words.next_part().ok_or(Cause::Form)?;
         match entry_with(word) {
-            Some(entry) => Some(Line::Stage(read_stage(entry, &mut words)?)),
-            None => read_closing(word, &mut words),
+            Some(entry) => Ok(Line::Stage(read_stage(entry, &mut words)?)),
+            None => read_closing(word, &mut words).ok_or(Cause::Form),
         }
     }
 }

@@ -1,8 +1,8 @@
 -- The lines of a list of signatures, and the fault of a line.
-use Rattle.std.specs.Prelude.{◌≡◌, ℕ, ◌-◌, Bool, cond, ◌&&◌, ◌||◌, List, [], ◌∷◌, ◌++◌, length, Option, Some, None, Result, Ok, Err, option_map, nat_eq, nat_le, nat_lt, get_or, codes, decimal}
+use Rattle.std.specs.Prelude.{◌≡◌, ℕ, ◌-◌, Bool, cond, ◌&&◌, ◌||◌, List, [], ◌∷◌, length, Option, Some, None, Result, Ok, Err, option_map, nat_eq, nat_le, nat_lt, get_or, codes}
 use Rattle.std.specs.List.{list_all, list_any, count_by}
 use Rattle.std.specs.Str.{bytes_eq}
-use Rattle.stage.specs.Faults.{Fault}
+use Rattle.origins.specs.Faults.{Fault}
 use Rattle.texts.specs.Parts.{parts}
 use Rattle.signatures.specs.Signatures.{colon, is_name, signature_bytes, IsProper}
 use Rattle.signatures.specs.declared.fault.Cause.{Cause}
@@ -67,21 +67,25 @@ cause_number Line = 11
 cause_number NotAType = 12
 cause_number Count = 13
 
--- the number of an answer that is a fault, and its number and position
+-- the number of an answer that is a fault
 abbrev pub number_of_fault : {X : Type 0} → Result X Cause → Option ℕ
 number_of_fault (Ok x) = None
 number_of_fault (Err c) = Some (cause_number c)
 
+-- a fault with a number, at a line of the list
+abbrev pub at_line : ℕ → ℕ → Fault
+at_line n line = record { layer = 1; number = n; position = line }
+
+abbrev pub signature_fault_of : SignatureFault → Fault
+signature_fault_of f = at_line (cause_number f.cause) f.line
+
 abbrev pub fault_of : Result Signature SignatureFault → Option Fault
 fault_of (Ok s) = None
-fault_of (Err f) = Some (record { number = cause_number f.cause; position = f.line })
+fault_of (Err f) = Some (signature_fault_of f)
 
 -- the fault of a line that is asked for by its number
 abbrev pub fault_at : List ℕ → ℕ → Option Fault
-fault_at list n = option_map (λ number. record { number = number; position = n }) (signature_fault (line_at list n))
-
-abbrev pub fault_text : SignatureFault → List ℕ
-fault_text f = codes "fault " ++ decimal (cause_number f.cause) ++ codes " at " ++ decimal f.line
+fault_at list n = option_map (λ number. at_line number n) (signature_fault (line_at list n))
 
 -- a line has no fault exactly where a proper signature writes it
 pub record FaultlessLineIsASignature (list : List ℕ) (n : ℕ) : Type 0 where

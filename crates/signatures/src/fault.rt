@@ -1,9 +1,15 @@
 // Why a line of a list is no signature.
 ghost use Rattle.std.specs.Prelude.{◌≡◌, Some};
-ghost use Rattle.signatures.specs.Faults.{cause_number, fault_text};
+ghost use Rattle.origins.specs.Faults.{fault_from, fault_text};
+ghost use Rattle.signatures.specs.Faults.{cause_number, signature_fault_of};
+ghost use Rattle.signatures.specs.declared.fault.Cause.TheVariants.{NotAType, Count};
 
+use arrayvec::CapacityError;
+use origins::{Layer, Origin};
 use std::error::Error;
 use std::fmt;
+use values::unknown::Unknown;
+use values::value_type::ValueType;
 
 #[derive(Clone, Copy, PartialEq, Eq, Debug)]
 pub enum Cause {
@@ -35,14 +41,53 @@ impl Cause {
     }
 }
 
-// Its number and its line.
+impl SignatureFault {
+    // At the line that was asked for.
+    pub fn origin(self) -> Origin
+        ensures its_layer_number_and_line { fault_from result ≡ signature_fault_of self }
+    {
+        Origin {
+            layer: Layer::Texts,
+            number: self.cause.number(),
+            position: self.line as usize,
+        }
+    }
+}
+
+// A word that no type has.
+impl From<Unknown> for Cause {
+    ghost from_gives = { λ _ c. c ≡ NotAType };
+
+    fn from(_unknown: Unknown) -> Cause {
+        Self::NotAType
+    }
+}
+
+// A type for which there is no room.
+impl From<CapacityError<ValueType>> for Cause {
+    ghost from_gives = { λ _ c. c ≡ Count };
+
+    fn from(_full: CapacityError<ValueType>) -> Cause {
+        Self::Count
+    }
+}
+
+// A cause, and the number of the line that was asked for.
+impl From<(Cause, u32)> for SignatureFault {
+    ghost from_gives = { λ c f. f ≡ record { cause = c.0; line = c.1 } };
+
+    fn from((cause, line): (Cause, u32)) -> SignatureFault {
+        SignatureFault { cause, line }
+    }
+}
+
 impl fmt::Display for SignatureFault {
-    ghost output = { λ f. Some (fault_text f) };
+    ghost output = { λ f. Some (fault_text (signature_fault_of f)) };
+
+    ghost styled_output = { λ f _. Some (fault_text (signature_fault_of f)) };
 
     fn fmt<W: fmt::Write>(&self, f: &mut fmt::Formatter<W>) -> fmt::Result {
-        let number = self.cause.number();
-        let line = self.line;
-        write!(f, "fault {number} at {line}")
+        fmt::Display::fmt(&self.origin(), f)
     }
 }
 

@@ -3,6 +3,7 @@ ghost use Rattle.std.specs.Prelude.{◌≡◌, ◌<◌, ◌≤◌, true, false, 
 ghost use Rattle.texts.specs.Parts.{parts_left};
 ghost use Rattle.values.specs.Types.{word_of};
 ghost use Rattle.signatures.specs.Signatures.{is_name, signature_bytes, IsProper};
+ghost use Rattle.signatures.specs.declared.fault.Cause.TheVariants.{Count};
 ghost use Rattle.signatures.specs.Faults.{line_at, before_colon, behind_colon, are_divided, are_types, is_type_word, line_fault, number_of_fault, fault_of, fault_at, FaultlessLinesAreSignatures, LinesTellSignaturesApart};
 
 use crate::fault::{Cause, SignatureFault};
@@ -44,8 +45,8 @@ fn read_name(word: &[u8]) -> Option<ArrayString<8>>
     if !is_name(word) {
         return None;
     }
-    let name = str::from_utf8(word).ok()?;
-    ArrayString::from(name).ok()
+    let name = str::from_utf8(word).unwrap();
+    Some(ArrayString::from(name).unwrap())
 }
 
 // Whether a type has the word.
@@ -78,19 +79,19 @@ fn check_words(words: &mut Parts) -> Result<(), Cause>
     Ok(())
 }
 
-// The types up to a colon or the end; none where there are more than N.
-fn read_types<const N: usize>(words: &mut Parts) -> Option<ArrayVec<ValueType, N>>
+// The types up to a colon or the end, N at most.
+fn read_types<const N: usize>(words: &mut Parts) -> Result<ArrayVec<ValueType, N>, Cause>
     requires words_are_types_and_colons { are_types (parts_left words.old) ≡ true }
-    ensures the_types_before_the_colon_or_too_many { MatchOption result (N < length (before_colon (parts_left words.old))) (λ v. (length v.items ≤ N) × (map word_of v.items ≡ before_colon (parts_left words.old)) × (parts_left words.new ≡ behind_colon (parts_left words.old))) }
+    ensures the_types_before_the_colon_or_too_many { MatchResult result (λ v. (length v.items ≤ N) × (map word_of v.items ≡ before_colon (parts_left words.old)) × (parts_left words.new ≡ behind_colon (parts_left words.old))) (λ c. (N < length (before_colon (parts_left words.old))) × (c ≡ Count)) }
 {
     let mut list = ArrayVec::new();
     while let Some(word) = words.next_part() {
         if word == COLON {
-            return Some(list);
+            return Ok(list);
         }
-        list.try_push(ValueType::try_from(word).ok()?).ok()?;
+        list.try_push(ValueType::try_from(word)?)?;
     }
-    Some(list)
+    Ok(list)
 }
 
 // The signature that a line writes, or its fault.
@@ -107,8 +108,8 @@ fn read_line(line: &[u8]) -> Result<Signature, Cause>
     let name = words.next_part().and_then(read_name).ok_or(Cause::Line)?;
     types.next_part();
     check_words(&mut words)?;
-    let arguments = read_types(&mut types).ok_or(Cause::Count)?;
-    let results = read_types(&mut types).ok_or(Cause::Count)?;
+    let arguments = read_types(&mut types)?;
+    let results = read_types(&mut types)?;
     Ok(Signature {
         name,
         arguments,
@@ -128,6 +129,9 @@ impl Signature {
             Some(bytes) => read_line(bytes),
             None => Err(Cause::Line),
         };
-        read.map_err(|cause| SignatureFault { cause, line })
+        match read {
+            Ok(signature) => Ok(signature),
+            Err(cause) => Err((cause, line))?,
+        }
     }
 }

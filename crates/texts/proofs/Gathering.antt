@@ -1,26 +1,62 @@
 -- What the first words of a list stand for, and the words that are left.
-use Rattle.std.proofs.Common.{◌≡◌, ℕ, true, false, ◌+◌, ◌≤◌, cond, List, [], ◌∷◌, ◌++◌, length, Option, Some, None, option_map, refl, ap, sym, ◌∙◌, append_assoc, append-nil, length-append, nat_le, arith, map, subst}
+use Rattle.std.proofs.Common.{◌≡◌, Bool, ℕ, min, drop, drop-drop, true, false, ◌+◌, ◌≤◌, cond, List, [], ◌∷◌, ◌++◌, length, Option, Some, None, option_map, refl, ap, sym, ◌∙◌, append_assoc, append-nil, length-append, nat_le, arith, map, subst}
 use Rattle.std.specs.List.{AllByRecursion}
 use Rattle.std.specs.Option.{option_and_then, unwrap_or}
-use Rattle.texts.specs.Lists.{all_of, all_of_at_most}
+use Rattle.std.proofs.lemmas.List.Sums.{take_while-cons}
+use Rattle.std.proofs.Math.Seq.{drop-length}
+use Rattle.std.specs.Prelude.{is_some, take_while}
+use Rattle.texts.proofs.Cuts.{none_behind}
+use Rattle.texts.specs.Lists.{all_of, all_of_at_most, left_behind}
 
 module _ {W X : Type 0} (f : W → Option X) where
+  abbrev pub stands : W → Bool
+  stands w = is_some (f w)
+
   pub record Gathering (all : List W) (xs : List X) (left : List W) : Type 0 where
     pub the_rest_is_to_come : all_of f all ≡ option_map (λ rest. xs ++ rest) (all_of f left)
     pub counted : length all ≡ length xs + length left
+    pub left_in_order : left ≡ drop (length xs) all
+    pub all_before_stand_for_something : length (take_while stands all) ≡ length xs + length (take_while stands left)
 
   onto : (xs : List X) (x : X) (r : Option (List X)) → option_map (λ rest. xs ++ rest) (option_map (λ rest. x ∷ rest) r) ≡ option_map (λ rest. (xs ++ x ∷ []) ++ rest) r
   onto xs x None = refl
   onto xs x (Some ys) = ap Some (sym (append_assoc xs (x ∷ []) ys))
 
   pub gathering : (all : List W) → Gathering all [] all
-  gathering all = record { the_rest_is_to_come = elim (all_of f all) as (λ r. r ≡ option_map (λ rest. rest) r) [ None ↦ refl | Some xs ↦ refl ]; counted = omega arith }
+  gathering all = record { the_rest_is_to_come = elim (all_of f all) as (λ r. r ≡ option_map (λ rest. rest) r) [ None ↦ refl | Some xs ↦ refl ]; counted = omega arith; left_in_order = refl; all_before_stand_for_something = omega arith }
+
+  one_stands : (w : W) (ws : List W) (x : X) → f w ≡ Some x → length (take_while stands (w ∷ ws)) ≡ length (take_while stands ws) + 1
+  one_stands w ws x e = rw (take_while-cons stands w ws, e) (omega arith)
+
+  none_stands : (w : W) (ws : List W) → f w ≡ None → length (take_while stands (w ∷ ws)) ≡ 0
+  none_stands w ws e = rw (take_while-cons stands w ws, e) refl
+
+  behind : (all : List W) (xs : List X) (w : W) (ws : List W) (n : ℕ) → Gathering all xs (w ∷ ws) → min n (length (take_while stands all)) ≡ length xs → ws ≡ left_behind n f all
+  behind all xs w ws n h e = ap (drop 1) h.left_in_order ∙ (drop-drop 1 (length xs) all ∙ ap (λ k. drop (k + 1) all) (sym e))
+
+  gone : (all : List W) → drop (length all + 1) all ≡ []
+  gone all = none_behind (length all) (length all + 1) all (drop-length all) (omega arith)
 
   pub gathering_more : (all : List W) (xs : List X) (w : W) (ws : List W) (x : X) → f w ≡ Some x → Gathering all xs (w ∷ ws) → Gathering all (xs ++ x ∷ []) ws
   gathering_more all xs w ws x e h = record {
     the_rest_is_to_come = h.the_rest_is_to_come ∙ rw e (onto xs x (all_of f ws));
     counted = omega (arith, h.counted, length-append xs (x ∷ []));
+    left_in_order = ap (drop 1) h.left_in_order ∙ (drop-drop 1 (length xs) all ∙ ap (λ n. drop n all) (sym (length-append xs (x ∷ []))));
+    all_before_stand_for_something = omega (arith, h.all_before_stand_for_something, one_stands w ws x e, length-append xs (x ∷ []));
   }
+
+  -- what is left where a word stops the gathering, or none is left
+  pub left_where_none : (all : List W) (xs : List X) (w : W) (ws : List W) (n : ℕ) → f w ≡ None → length xs ≤ n → Gathering all xs (w ∷ ws) → ws ≡ left_behind n f all
+  left_where_none all xs w ws n e l h = behind all xs w ws n h (omega (arith, h.all_before_stand_for_something, none_stands w ws e, l))
+
+  pub left_where_full : (all : List W) (xs : List X) (w : W) (ws : List W) (n : ℕ) → length xs ≡ n → Gathering all xs (w ∷ ws) → ws ≡ left_behind n f all
+  left_where_full all xs w ws n e h = behind all xs w ws n h (omega (arith, h.all_before_stand_for_something, e))
+
+  pub left_where_all : (all : List W) (xs : List X) (n : ℕ) → length xs ≤ n → Gathering all xs [] → [] ≡ left_behind n f all
+  left_where_all all xs n l h =
+      let read : length all ≡ length xs = omega (arith, h.counted) in
+      let count : min n (length (take_while stands all)) ≡ length all = omega (arith, h.all_before_stand_for_something, l, read) in
+      sym (rw count (gone all))
 
   pub gathering_stops : (all : List W) (xs : List X) (w : W) (ws : List W) → f w ≡ None → Gathering all xs (w ∷ ws) → all_of f all ≡ None
   gathering_stops all xs w ws e h = h.the_rest_is_to_come ∙ rw e refl

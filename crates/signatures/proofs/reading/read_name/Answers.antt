@@ -5,10 +5,10 @@ use Rattle.signatures.specs.Signatures.{is_name}
 use Rattle.signatures.proofs.Letters.{names_are_text}
 use Rattle.signatures.proofs.reading.read_name.Goals as goal
 
-pub returns-in_err-name : goal.returns-in_err-name
-returns-in_err-name c =
+pub unwrap-name-requires : goal.unwrap-name-requires
+unwrap-name-requires c =
     let text = names_are_text c.args.word.now (grind (arith, common_steps)) in
-    absurd (grind (arith, common_steps, text))
+    grind (arith, common_steps, text)
 
 pub returns : goal.returns
 returns c =

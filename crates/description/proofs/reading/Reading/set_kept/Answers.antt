@@ -8,4 +8,4 @@ pub returns : goal.returns
 returns c =
     let d : distinct c.args.list.now ≡ true = grind (arith, common_steps) in
     let b : c.in_ok-kept.kept.bits ≡ set_of c.args.list.now = grind (arith, common_steps) in
-    record { checked_by_the_rules = λ before h. with_kept before c.args.list.now c.args.self.now c.in_ok-kept.kept h (grind (arith, common_steps)) (sym c.is_some.ensures ∙ c.if-is_some.false) d b }
+    record { checked_by_the_rules = λ before h. with_kept before c.args.self.now h c.args.list.now c.in_ok-kept.kept (grind (arith, common_steps)) (sym c.is_some.ensures ∙ c.if-is_some.false) d b }

@@ -1,8 +1,14 @@
 use Rattle.signatures.proofs.Written.{faultless_lines_are_signatures, lines_tell_signatures_apart}
 use Rattle.signatures.proofs.signature.Signature.read.Goals as goal
 
-pub returns-clause-faultless_lines_are_those_of_proper_signatures : goal.returns-clause-faultless_lines_are_those_of_proper_signatures
-returns-clause-faultless_lines_are_those_of_proper_signatures c = faultless_lines_are_signatures
+pub returns-in_err-clause-faultless_lines_are_those_of_proper_signatures : goal.returns-in_err-clause-faultless_lines_are_those_of_proper_signatures
+returns-in_err-clause-faultless_lines_are_those_of_proper_signatures c = faultless_lines_are_signatures
 
-pub returns-clause-a_line_is_written_by_one_proper_signature : goal.returns-clause-a_line_is_written_by_one_proper_signature
-returns-clause-a_line_is_written_by_one_proper_signature c = lines_tell_signatures_apart
+pub returns-in_err-clause-a_line_is_written_by_one_proper_signature : goal.returns-in_err-clause-a_line_is_written_by_one_proper_signature
+returns-in_err-clause-a_line_is_written_by_one_proper_signature c = lines_tell_signatures_apart
+
+pub returns-in-Ok-clause-faultless_lines_are_those_of_proper_signatures : goal.returns-in-Ok-clause-faultless_lines_are_those_of_proper_signatures
+returns-in-Ok-clause-faultless_lines_are_those_of_proper_signatures c = faultless_lines_are_signatures
+
+pub returns-in-Ok-clause-a_line_is_written_by_one_proper_signature : goal.returns-in-Ok-clause-a_line_is_written_by_one_proper_signature
+returns-in-Ok-clause-a_line_is_written_by_one_proper_signature c = lines_tell_signatures_apart
