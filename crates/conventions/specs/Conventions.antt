@@ -1,15 +1,13 @@
 -- A service, as its convention describes it.
-use Rattle.std.specs.Prelude.{◌≡◌, ℕ, List, Result, Err, MatchResult}
+use Rattle.std.specs.Prelude.{◌≡◌, ℕ, List, Result, MatchResult}
 use Rattle.banks.specs.Lists.{set_of}
 use Rattle.stage.specs.declared.Stage.{Ghosts}
 use Rattle.allocation.specs.States.{opened}
 use Rattle.described.specs.Piles.{AtStart}
 use Rattle.described.specs.declared.pile.Pile.{Pile}
-use Rattle.pages.specs.Pages.{Page, page_lines, text_of, IsProper}
-use Rattle.pages.specs.Rules.{read_text}
 use Rattle.pages.specs.declared.faults.DescriptionFault.{DescriptionFault}
-use Rattle.description.specs.Profiles.{Meaning, meaning_of}
-use Rattle.description.specs.Describing.{StopsAtALayer, IsTheFault}
+use Rattle.description.specs.Profiles.{Meaning}
+use Rattle.description.specs.Describing.{OfThePage, IsTheFirstFault}
 use Rattle.service.specs.Services.{ServiceState, service_state}
 use Rattle.service.specs.declared.faults.Fault.{Fault}
 use Rattle.service.specs.declared.faults.Fault.TheVariants.{Description}
@@ -29,15 +27,11 @@ service_of m = record {
   kept = set_of m.kept;
 }
 
--- what the proper page says that writes a text
-abbrev pub OfThePage : List ℕ → (Meaning → Type 0) → Type 0
-OfThePage text P = (p : Page) × IsProper p × (text_of (page_lines p) ≡ text) × P (meaning_of (page_lines p))
-
--- a side as a text describes it; or the first fault of the text, or want of memory at a layer
+-- a side as a text describes it; or the first fault of the text, or want of memory for the piles of a proper page
 abbrev pub IsReadForOneSide : List ℕ → Result (Convention Pile) DescriptionFault → Type 0
-IsReadForOneSide text result = MatchResult result (λ c. OfThePage text (λ m. IsAsSaid m c)) (λ f. IsTheFault f (StopsAtALayer text) (λ g. read_text text ≡ Err g))
+IsReadForOneSide text result = MatchResult result (λ c. OfThePage text (λ m. IsAsSaid m c)) (IsTheFirstFault text)
 
 -- a service, by the ghost members of its piles, as a text describes it; or that fault
 abbrev pub IsReadForBothSides : Ghosts Pile → List ℕ → Result (Service Pile) Fault → Type 0
 IsReadForBothSides g text result =
-    MatchResult result (λ s. OfThePage text (λ m. service_state g s ≡ service_of m)) (λ f. (d : DescriptionFault) × (f ≡ Description d) × IsTheFault d (StopsAtALayer text) (λ x. read_text text ≡ Err x))
+    MatchResult result (λ s. OfThePage text (λ m. service_state g s ≡ service_of m)) (λ f. (d : DescriptionFault) × (f ≡ Description d) × IsTheFirstFault text d)

@@ -2,7 +2,7 @@
 use Rattle.std.proofs.Common.{◌≡◌, Option, Some, None, Err, option_map, ap, sym, ◌∙◌, subst, arith}
 use Rattle.texts.proofs.Options.{the_same}
 use Rattle.signatures.specs.Signatures.{signature_bytes, IsProper}
-use Rattle.signatures.specs.Faults.{line_at, fault_at, FaultlessLinesAreSignatures, LinesTellSignaturesApart}
+use Rattle.signatures.specs.Faults.{line_at, at_line, fault_at, FaultlessLinesAreSignatures, LinesTellSignaturesApart}
 use Rattle.signatures.specs.declared.fault.SignatureFault.{SignatureFault}
 use Rattle.signatures.specs.declared.signature.Signature.{Signature}
 use Rattle.service.specs.Faults.{fault_of}
@@ -19,7 +19,7 @@ came_of_a_fault s f fault answered service world told law = record {
   profiles_and_kept_set_stay = subst (SameService s.service) (sym service) (the_same_service s.service);
   a_line_at_fault_changes_nothing = λ x e. record { refusal = fault; answers_the_refusal = answered; refusal_is_the_fault = told ∙ e; service_stays = service; lists_registers_and_memory_stay = world };
   the_signature_of_the_line_is_called = λ g p e.
-      absurd (none_is_some (fault_at s.list s.line) _ (sym (ap (option_map (λ number. record { number = number; position = s.line })) ((law s.list s.line).a_line_that_a_proper_signature_writes_has_no_fault g p e))) (sym told));
+      absurd (none_is_some (fault_at s.list s.line) _ (sym (ap (option_map (λ number. at_line number s.line)) ((law s.list s.line).a_line_that_a_proper_signature_writes_has_no_fault g p e))) (sym told));
 }
 
 pub came_of_a_signature : (s : Start) (f : Finish) (g : Signature) → IsProper g → line_at s.list s.line ≡ Some (signature_bytes g) → None ≡ fault_at s.list s.line → LinesTellSignaturesApart →

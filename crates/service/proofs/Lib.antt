@@ -2,3 +2,4 @@ mod Profiles
 mod Came
 mod Twins
 mod Parts
+pub mod Agreed

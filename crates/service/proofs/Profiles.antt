@@ -3,7 +3,7 @@ use Rattle.std.proofs.Common.{◌≡◌, ℕ, List, Some, None, Option, refl, ap
 use Rattle.stage.specs.Faults.{Fault}
 use Rattle.allocation.specs.States.{State, opened}
 use Rattle.allocation.specs.declared.asked.Asked.{Asked}
-use Rattle.histories.proofs.Rounds.{profile_stays}
+use Rattle.histories.proofs.Leaving.{profile_stays}
 use Rattle.machine.specs.declared.Instruction.{Instruction}
 use Rattle.call.specs.Placing.{Sides, Placement, asked, placing}
 use Rattle.call.specs.Calls.{World}

@@ -7,14 +7,14 @@ use Rattle.stage.specs.Books.{Profile}
 use Rattle.allocation.specs.declared.asked.Asked.{Asked}
 use Rattle.machine.specs.declared.Instruction.{Instruction}
 use Rattle.signatures.specs.Signatures.{signature_bytes, IsProper}
-use Rattle.signatures.specs.Faults.{line_at, fault_at, signature_fault, cause_number}
+use Rattle.signatures.specs.Faults.{line_at, at_line, fault_at, signature_fault, signature_fault_of, cause_number}
 use Rattle.signatures.specs.declared.fault.Cause.{Cause}
 use Rattle.signatures.specs.declared.fault.Cause.TheVariants.{Line, NotAType, Count}
 use Rattle.signatures.specs.declared.fault.SignatureFault.{SignatureFault}
 use Rattle.signatures.specs.declared.signature.Signature.{Signature}
 use Rattle.signatures.proofs.Written.{faultless_lines_are_signatures}
 use Rattle.call.specs.Calls.{World}
-use Rattle.call.specs.Astray.{Setting, End, NothingGoesAstray, unused}
+use Rattle.call.specs.Astray.{Setting, End, NothingGoesAstray, unused, unheard}
 use Rattle.call.proofs.Ends.{one_end_for_each_setting}
 use Rattle.service.specs.Faults.{fault_of, answer_of}
 use Rattle.service.specs.declared.faults.Fault.TheVariants as Faults
@@ -33,7 +33,7 @@ cause_read_back Line = refl
 cause_read_back NotAType = refl
 cause_read_back Count = refl
 
-refusal_read_back : (f : SignatureFault) → refusal_from (record { number = cause_number f.cause; position = f.line }) ≡ f
+refusal_read_back : (f : SignatureFault) → refusal_from (signature_fault_of f) ≡ f
 refusal_read_back f = rw (cause_read_back f.cause) refl
 
 that_refusal : (f : SignatureFault) (fault : Fault) → fault_of (Faults.Signature f) ≡ Some fault → f ≡ refusal_from fault
@@ -60,8 +60,8 @@ module _ (s : Start) (t : ServiceState) (e f : Finish) (same : SameService s.ser
       let results = requests_of g.results.items in
       let a = first.the_signature_of_the_line_is_called g p written in
       let b = second.the_signature_of_the_line_is_called g p written in
-      let x : End = record { sides = e.service.sides; world = e.world; answer = a.answer } in
-      let y : End = record { sides = f.service.sides; world = f.world; answer = b.answer } in
+      let x : End = unheard e.service.sides e.world a.answer in
+      let y : End = unheard f.service.sides f.world b.answer in
       let moved : NothingGoesAstray (setting_of t s.body s.budget s.world arguments results) x =
       subst (λ (z : Setting). NothingGoesAstray z x) (same_setting s.service t s.body s.budget s.world arguments results same) a.nothing_goes_astray in
       let ends : x ≡ y = one_end_for_each_setting (setting_of t s.body s.budget s.world arguments results) x y moved b.nothing_goes_astray in
@@ -83,7 +83,7 @@ module _ (s : Start) (t : ServiceState) (e f : Finish) (same : SameService s.ser
 
   by_its_fault : (o : Option ℕ) → signature_fault (line_at s.list s.line) ≡ o → Alike s e f
   by_its_fault None h = let g = (faultless_lines_are_signatures s.list s.line).a_line_without_fault_is_written_by_a_proper_signature h in called_alike g.0 g.1 g.2
-  by_its_fault (Some n) h = refused_alike (record { number = n; position = s.line }) (ap (option_map (λ number. record { number = number; position = s.line })) h)
+  by_its_fault (Some n) h = refused_alike (at_line n s.line) (ap (option_map (λ number. at_line number s.line)) h)
 
   pub answered_alike : Alike s e f
   answered_alike = by_its_fault (signature_fault (line_at s.list s.line)) refl

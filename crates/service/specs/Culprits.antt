@@ -5,8 +5,10 @@ use Rattle.pages.specs.declared.faults.DescriptionFault.{DescriptionFault}
 use Rattle.pages.specs.declared.faults.DescriptionFault.TheVariants.{Text, Memory}
 use Rattle.allocation.specs.declared.faults.Cause.{Cause}
 use Rattle.allocation.specs.declared.faults.Cause.TheVariants.{NotAType, Full, Unsound, Refused}
+use Rattle.call_faults.specs.declared.CallFault.{CallFault}
+use Rattle.call_faults.specs.declared.CallFault.TheVariants.{Placement, Code, Run}
 use Rattle.service.specs.declared.faults.Fault.{Fault}
-use Rattle.service.specs.declared.faults.Fault.TheVariants.{Description, Signature, Placement, Code, Run}
+use Rattle.service.specs.declared.faults.Fault.TheVariants.{Description, Signature, Call}
 
 -- the line with a number, from 1, without its feed; what follows the last feed is a line as well; nothing where there is no such line
 abbrev pub line_in : List ℕ → ℕ → List ℕ
@@ -29,17 +31,19 @@ line_refusing (Refused f) = f.line
 abbrev pub text_of : Fault → List ℕ → List ℕ → List ℕ
 text_of (Signature f) description list = list
 text_of (Description f) description list = description
-text_of (Placement f) description list = description
-text_of (Code f) description list = description
-text_of (Run f) description list = description
+text_of (Call f) description list = description
+
+-- the line that a fault of a call blames, of the stage that refused; 0 where it is of code or of a run
+abbrev pub line_called : CallFault → ℕ
+line_called (Placement f) = line_refusing f.cause
+line_called (Code f) = 0
+line_called (Run f) = 0
 
 -- the number of the line that a fault blames; 0 where it blames none
 abbrev pub line_of : Fault → ℕ
 line_of (Description f) = line_described f
 line_of (Signature f) = f.line
-line_of (Placement f) = line_refusing f.cause
-line_of (Code f) = 0
-line_of (Run f) = 0
+line_of (Call f) = line_called f
 
 abbrev pub culprit_of : Fault → List ℕ → List ℕ → List ℕ
 culprit_of f description list = line_in (text_of f description list) (line_of f)

@@ -1,3 +1,4 @@
 pub mod Faults
 pub mod Culprits
 pub mod Services
+pub mod Agreeing

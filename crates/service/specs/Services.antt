@@ -13,7 +13,7 @@ use Rattle.signatures.specs.declared.fault.SignatureFault.{SignatureFault}
 use Rattle.signatures.specs.declared.signature.Signature.{Signature}
 use Rattle.call.specs.Placing.{Sides, both_sides}
 use Rattle.call.specs.Calls.{World}
-use Rattle.call.specs.Astray.{Setting, unused, NothingGoesAstray}
+use Rattle.call.specs.Astray.{Setting, unused, unheard, NothingGoesAstray}
 use Rattle.call.specs.declared.ran.Ran.{Ran}
 use Rattle.call_faults.specs.declared.CallFault.{CallFault}
 use Rattle.service.specs.Faults.{fault_of, answer_of}
@@ -22,6 +22,7 @@ use Rattle.service.specs.declared.faults.Fault.TheVariants as Faults
 use Rattle.service.specs.declared.services.Convention.{Convention}
 use Rattle.service.specs.declared.services.Service.{Service}
 use Rattle.service.specs.declared.services.AlwaysPlaced.{AlwaysPlaced}
+use Rattle.service.specs.declared.services.Answered.{Answered}
 
 -- what a service is: its four allocations, and the registers that a routine keeps
 pub record ServiceState : Type 0 where
@@ -65,6 +66,24 @@ pub record Finish : Type 0 where
   pub world : World
   pub answer : Result Ran AnyFault
 
+-- a call of a service by a line of a list
+abbrev pub start_of : {P : Type 0} → Ghosts P → Service P → List ℕ → ℕ → List Instruction → ℕ → World → Start
+start_of g s list line body budget world = record {
+  service = service_state g s;
+  list = list;
+  line = line;
+  body = body;
+  budget = budget;
+  world = world;
+}
+
+abbrev pub finish_of : {P : Type 0} → Ghosts P → Answered P → World → Finish
+finish_of g a world = record {
+  service = service_state g a.service;
+  world = world;
+  answer = a.answer;
+}
+
 -- the requests for the types of a signature, each at its own alignment
 abbrev pub requests_of : List ValueType → List Asked
 requests_of = map asked_for
@@ -88,7 +107,8 @@ setting_of s body budget world arguments results = record {
 pub record SignatureCalled (s : ServiceState) (body : List Instruction) (budget : ℕ) (world : World) (arguments results : List Asked) (f : Finish) : Type 0 where
   pub kept_set_stays : f.service.kept ≡ s.kept
   pub answer : Result Ran CallFault
-  pub nothing_goes_astray : NothingGoesAstray (setting_of s body budget world arguments results) (record { sides = f.service.sides; world = f.world; answer = answer })
+  pub nothing_goes_astray :
+      NothingGoesAstray (setting_of s body budget world arguments results) (unheard f.service.sides f.world answer)
   pub fault_is_that_of_the_call : f.answer ≡ answer_of answer
 
 -- two services that are the same but for what came to them: equal profiles, and an equal kept set

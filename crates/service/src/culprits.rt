@@ -4,6 +4,7 @@ ghost use Rattle.service.specs.Culprits.{line_in, line_of, culprit_of, LinesAreP
 
 use crate::faults::Fault;
 use allocation::faults::{Cause, PlacementFault};
+use call_faults::CallFault;
 use pages::faults::DescriptionFault;
 use texts::parts::Parts;
 
@@ -24,11 +25,13 @@ fn line_of(fault: &Fault) -> u32
     match fault {
         Fault::Description(DescriptionFault::Text { cause: _, line }) => *line,
         Fault::Signature(refusal) => refusal.line,
-        Fault::Placement(
-            PlacementFault {
-                cause: Cause::Refused(refusal),
-                position: _,
-            },
+        Fault::Call(
+            CallFault::Placement(
+                PlacementFault {
+                    cause: Cause::Refused(refusal),
+                    position: _,
+                },
+            ),
         ) => refusal.line,
         _ => 0,
     }

@@ -4,7 +4,8 @@ ghost use Rattle.stage.specs.declared.Stage.{Ghosts};
 ghost use Rattle.allocation.specs.States.{state, opened, always_placed};
 ghost use Rattle.call.specs.Placing.{both_sides};
 ghost use Rattle.call.specs.Calls.{world_of};
-ghost use Rattle.service.specs.Services.{service_state, opened_service, requests_of, CameOutByTheLine, SignatureCalled, EqualServicesAnswerAlike, AlwaysPlacedOn};
+ghost use Rattle.service.specs.Faults.{answer_of};
+ghost use Rattle.service.specs.Services.{service_state, opened_service, start_of, finish_of, requests_of, CameOutByTheLine, SignatureCalled, EqualServicesAnswerAlike, AlwaysPlacedOn};
 
 use crate::faults::Fault;
 use crate::requests::requests;
@@ -13,6 +14,7 @@ use allocation::opened::Open;
 use call::calls::call_again;
 use call::ran::Ran;
 use call::sides::{Routine, Side};
+use call_faults::CallFault;
 use machine::Instruction;
 use place::registers::RegisterSet;
 use signatures::signature::Signature;
@@ -49,6 +51,13 @@ pub struct AlwaysPlaced {
     pub bench_results: bool,
     pub core_arguments: bool,
     pub core_results: bool,
+}
+
+// The fault of a call, where it answers one, as one of the service.
+fn turned(answer: Result<Ran, CallFault>) -> Result<Ran, Fault>
+    ensures fault_is_that_of_the_call { result ≡ answer_of answer }
+{
+    Ok(answer?)
 }
 
 // Opened, and frozen at once.
@@ -116,7 +125,10 @@ impl<P: Stage> Service<P> {
         memory: &mut [u8],
         budget: usize,
     ) -> Answered<P>
-        ensures nothing_goes_astray { SignatureCalled (service_state P.Stage self) body.now budget (world_of caller.old callee.old registers.old memory.old) (requests_of signature.now.arguments.items) (requests_of signature.now.results.items) (record { service = service_state P.Stage result.service; world = world_of caller.new callee.new registers.new memory.new; answer = result.answer }) }
+        ensures nothing_goes_astray { SignatureCalled (service_state P.Stage self) body.now budget
+            (world_of caller.old callee.old registers.old memory.old)
+            (requests_of signature.now.arguments.items) (requests_of signature.now.results.items)
+            (finish_of P.Stage result (world_of caller.new callee.new registers.new memory.new)) }
     {
         let arguments = requests(&signature.arguments);
         let results = requests(&signature.results);
@@ -136,7 +148,7 @@ impl<P: Stage> Service<P> {
                 core: called.core,
                 kept,
             },
-            answer: called.answer.map_err(Fault::from),
+            answer: turned(called.answer),
         }
     }
 
@@ -153,7 +165,10 @@ impl<P: Stage> Service<P> {
         memory: &mut [u8],
         budget: usize,
     ) -> Answered<P>
-        ensures comes_out_by_the_line { CameOutByTheLine (record { service = service_state P.Stage self; list = list.now; line = line; body = body.now; budget = budget; world = world_of caller.old callee.old registers.old memory.old }) (record { service = service_state P.Stage result.service; world = world_of caller.new callee.new registers.new memory.new; answer = result.answer }) }
+        ensures comes_out_by_the_line { CameOutByTheLine
+            (start_of P.Stage self list.now line body.now budget
+            (world_of caller.old callee.old registers.old memory.old))
+            (finish_of P.Stage result (world_of caller.new callee.new registers.new memory.new)) }
         ensures equal_services_answer_alike { EqualServicesAnswerAlike }
     {
         match Signature::read(list, line) {

@@ -1,9 +1,9 @@
 // A service of built-in piles.
 use banks::count::Count;
 use machine::{Instruction, Outcome};
+use origins::{Layer, Origin};
 use place::registers::RegisterSet;
 use service::culprits::culprit;
-use service::faults::Located;
 use service::services::{Answered, Convention, Service};
 use stage::ParameterFault;
 use std::test::Fail;
@@ -42,8 +42,9 @@ fn calls_go_on_after_a_fault(rt: HostRuntime) -> Result<(), Fail> {
         .err()
         .ok_or_else(|| Fail::new("the line is at fault"))?;
     assert_eq!(rt;
-        fault.located(),
-        Some(Located {
+        fault.origin(),
+        Some(Origin {
+            layer: Layer::Texts,
             number: 12,
             position: 2
         })
@@ -54,8 +55,9 @@ fn calls_go_on_after_a_fault(rt: HostRuntime) -> Result<(), Fail> {
         .err()
         .ok_or_else(|| Fail::new("the second is refused"))?;
     assert_eq!(rt;
-        fault.located(),
-        Some(Located {
+        fault.origin(),
+        Some(Origin {
+            layer: Layer::Placing,
             number: 24,
             position: 1
         })

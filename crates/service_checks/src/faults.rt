@@ -2,14 +2,29 @@
 use crate::lent::Lent;
 use conventions::reading::read;
 use machine::{Instruction, Width};
+use origins::{Layer, Origin};
 use service::culprits::culprit;
-use service::faults::Located;
 use std::alloc::Global;
 use std::process::Abort;
 use std::test::Fail;
 
 // A word in r0, and a word back in r1.
 const WORDS: &str = "count r0\ncount r1\nargs 1\nresults 2\nkeep\n";
+
+// The layer that a number belongs to: 1 to 13, 21 to 24, 31 to 34, or 51.
+fn origin(number: u8, position: usize) -> Origin {
+    let layer = match number {
+        0..=19 => Layer::Texts,
+        20..=29 => Layer::Placing,
+        30..=39 => Layer::Code,
+        _ => Layer::Run,
+    };
+    Origin {
+        layer,
+        number,
+        position,
+    }
+}
 
 // The convention is not read, with a fault of this number and line that blames this text.
 fn is_not_read(
@@ -22,11 +37,7 @@ fn is_not_read(
     let fault = read(text.as_bytes(), heap)
         .err()
         .ok_or_else(|| Fail::new("the convention is read"))?;
-    assert_eq!(rt;
-        fault.located(),
-        Some(Located { number, position }),
-        "{text}"
-    );
+    assert_eq!(rt; fault.origin(), Some(origin(number, position)), "{text}");
     assert_eq!(rt;
         culprit(&fault, text.as_bytes(), b""),
         blamed.as_bytes(),
@@ -69,8 +80,8 @@ fn refuses(
         .err()
         .ok_or_else(|| Fail::new("the call is not refused"))?;
     assert_eq!(rt;
-        fault.located(),
-        Some(Located { number, position }),
+        fault.origin(),
+        Some(origin(number, position)),
         "{description}{list}{line}"
     );
     let found = culprit(&fault, description.as_bytes(), list.as_bytes());

@@ -1,10 +1,10 @@
 // What is lent to a call.
 use call::ran::Ran;
 use conventions::reading::read;
-use described::pile::Pile;
 use machine::Instruction;
 use service::faults::Fault;
 use service::services::{Answered, Service};
+use stage::Stage;
 use std::alloc::{AllocError, Global};
 
 // What stands in both lists before.
@@ -51,13 +51,13 @@ impl Lent {
         Lent::of(heap, 24, 24, 192)
     }
 
-    pub(crate) fn call(
+    pub(crate) fn call<P: Stage>(
         &mut self,
-        service: Service<Pile>,
+        service: Service<P>,
         list: &str,
         line: u32,
         body: &[Instruction],
-    ) -> Answered<Pile> {
+    ) -> Answered<P> {
         service.call(
             list.as_bytes(),
             line,

@@ -8,6 +8,8 @@ mod deliveries;
 #[cfg(test)]
 mod faults;
 #[cfg(test)]
+mod foreign;
+#[cfg(test)]
 mod lent;
 #[cfg(test)]
 mod pasts;
