@@ -1,14 +1,21 @@
 #!/bin/sh
-# Makes each misuse of an allocation in a scratch copy of the repository, and expects the checker to reject it.
-# A type error does not reach the prover, so a must-fail edit cannot show it. It changes nothing in the repository.
+# Makes each misuse of an allocation in a scratch copy of the crates that it needs, and expects the checker to reject it.
+# A type error does not reach the prover, so a must-fail edit cannot show it. It changes nothing in the repository, and
+# begins with the libraries that a run of rt ci or rt check in it built.
 set -eu
 
 root=$(cd "$(dirname "$0")/.." && pwd)
 scratch=$(mktemp -d)
 trap 'rm -rf "$scratch"' EXIT
-tar -C "$root" --exclude=out -cf - crates crates.txt | tar -C "$scratch" -xf -
-echo 'misuse: values place stage allocation machine delivery emit' >> "$scratch/crates.txt"
+below='origins values place stage allocation machine delivery emit'
 mkdir -p "$scratch/crates/misuse/src"
+# Only its words are meant to be split.
+# shellcheck disable=SC2086
+tar -C "$root/crates" --exclude='*/out/incremental' -cf - $below | tar -C "$scratch/crates" -xf -
+for crate in $below; do
+    grep "^$crate:" "$root/crates.txt"
+done > "$scratch/crates.txt"
+echo "misuse: $below" >> "$scratch/crates.txt"
 failed=0
 
 # Checks a function with the body on the input, after an allocation was opened.
@@ -27,7 +34,7 @@ check() {
         cat
         echo '}'
     } > "$scratch/crates/misuse/src/lib.rt"
-    (cd "$scratch/crates/misuse" && rt check) > "$scratch/log" 2>&1
+    (cd "$scratch/crates/misuse" && rt check < /dev/null) > "$scratch/log" 2>&1
 }
 
 report() {

@@ -87,7 +87,7 @@ pub(crate) fn show_line_called(
     };
     let signature = match Signature::read(list, line) {
         Ok(signature) => signature,
-        Err(refusal) => return show_fault(rt, &Fault::Signature(refusal), description, list),
+        Err(refusal) => return show_fault(rt, &Fault::from(refusal), description, list),
     };
     let mut bench = Bench::new(rt)?;
     fill_all(

@@ -5,11 +5,12 @@ use adjust::Adjust;
 use allocation::asked::Asked;
 use allocation::frozen::Frozen;
 use allocation::held::Held;
-use anyhow::anyhow;
 use banks::bits::Bits;
 use call::calls::call;
 use call::ran::Ran;
-use call::sides::{Routine, Side, UsedPile};
+use call::sides::{Routine, Side};
+use histories::events::{Event, UsedPile};
+use histories::listeners::Silence;
 use machine::{Instruction, Width};
 use place::registers::RegisterSet;
 use stage::{ParameterFault, Stage};
@@ -51,16 +52,8 @@ fn results() -> Result<Adjust<Bits>, ParameterFault> {
 }
 
 // A pile, and what came to it before.
-fn used<'r, 'q, 's, P>(
-    pile: P,
-    rounds: &'r [&'q [Asked]],
-    since: &'s [Asked],
-) -> UsedPile<'r, 'q, 's, P> {
-    UsedPile {
-        pile,
-        rounds,
-        since,
-    }
+fn used<'p, P>(pile: P, past: &'p [Event]) -> UsedPile<'p, P> {
+    UsedPile { pile, past }
 }
 
 // -3, 1,000, -600 and 40 in the homes from 128 on.
@@ -125,6 +118,7 @@ fn show_call<A: Stage + Drop, B: Stage + Drop, C: Stage + Drop, D: Stage + Drop>
     let called = call(
         bench,
         core,
+        &mut Silence,
         routine,
         &mut caller,
         &mut callee,
@@ -134,7 +128,7 @@ fn show_call<A: Stage + Drop, B: Stage + Drop, C: Stage + Drop, D: Stage + Drop>
     );
     show_side(rt, "bench", &called.bench)?;
     show_side(rt, "core", &called.core)?;
-    let ran = called.answer.map_err(|_| anyhow!("the call is refused"))?;
+    let ran = called.answer?;
     show_code(rt, "caller", &caller, ran.caller_length, ran.block)?;
     show_code(rt, "callee", &callee, ran.callee_length, ran.frame)?;
     show_run(rt, ran, called.core.arguments.held(), &memory)
@@ -142,21 +136,21 @@ fn show_call<A: Stage + Drop, B: Stage + Drop, C: Stage + Drop, D: Stage + Drop>
 
 // Bench and core have lived through unlike pasts; then one call goes across.
 pub(crate) fn show_crossing(rt: &HostRuntime) -> anyhow::Result<()> {
-    let taken = [
-        Asked::aligned(Kind::Float, 8),
-        Asked::aligned(Kind::Unsigned, 3),
-        Asked::aligned(Kind::Unsigned, 8),
-    ];
-    let word = [Asked::aligned(Kind::Address, 4)];
-    let once: [&[Asked]; 1] = [&taken];
-    let twice: [&[Asked]; 2] = [&taken, &[]];
+    let float = Event::Place(Asked::aligned(Kind::Float, 8));
+    let no_type = Event::Place(Asked::aligned(Kind::Unsigned, 3));
+    let double = Event::Place(Asked::aligned(Kind::Unsigned, 8));
+    let word = Event::Place(Asked::aligned(Kind::Address, 4));
+    let again = Event::Reopen;
+    let twice = [float, no_type, double, again, again, float, no_type, double];
+    let once = [float, no_type, double, again, float, no_type, double];
+    let word = [word];
     let bench = Side {
-        arguments: used(wide()?, &twice, &taken),
-        results: used(results()?, &[], &[]),
+        arguments: used(wide()?, &twice),
+        results: used(results()?, &[]),
     };
     let core = Side {
-        arguments: used(wide()?, &[], &word),
-        results: used(results()?, &once, &taken),
+        arguments: used(wide()?, &word),
+        results: used(results()?, &once),
     };
     let routine = Routine {
         arguments: &[

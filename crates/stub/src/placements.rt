@@ -3,10 +3,11 @@
 use crate::piles::{convention, floats_apart, wide};
 use allocation::asked::Asked;
 use allocation::opened::Open;
-use anyhow::anyhow;
 use banks::bits::Bits;
 use banks::count::Count;
 use blocks::up::Up;
+use histories::events::{Event, UsedPile};
+use histories::listeners::Silence;
 use histories::plays::play;
 use machine::{Instruction, Machine, Program, Width};
 use place::pieces::Place;
@@ -55,17 +56,25 @@ fn show_side<P: Stage + Drop>(
 // Two sides of one convention that have lived through unlike pasts place the same signature alike.
 fn show_sides(rt: &HostRuntime) -> anyhow::Result<()> {
     // The bench's shut had closed, and something that is no type was refused.
-    let closed = [
-        Asked::aligned(Kind::Unsigned, 1),
-        Asked::aligned(Kind::Float, 2),
-        Asked::aligned(Kind::Unsigned, 4),
-    ];
-    let bench = play(convention()?, &[&closed], &[]);
-    let core = play(
-        convention()?,
-        &[&[], &[Asked::aligned(Kind::Signed, 8)]],
-        &[],
-    );
+    let bench = UsedPile {
+        pile: convention()?,
+        past: &[
+            Event::Place(Asked::aligned(Kind::Unsigned, 1)),
+            Event::Place(Asked::aligned(Kind::Float, 2)),
+            Event::Place(Asked::aligned(Kind::Unsigned, 4)),
+            Event::Reopen,
+        ],
+    };
+    let core = UsedPile {
+        pile: convention()?,
+        past: &[
+            Event::Reopen,
+            Event::Place(Asked::aligned(Kind::Signed, 8)),
+            Event::Reopen,
+        ],
+    };
+    let bench = play(bench, &mut Silence);
+    let core = play(core, &mut Silence);
     show_side(rt, "bench after a round that closed its shut", bench)?;
     show_side(rt, "core after two other rounds", core)
 }
@@ -109,9 +118,7 @@ fn show_small_call(rt: &HostRuntime) -> anyhow::Result<()> {
         caller: &caller,
         callee: &callee,
     };
-    let (outcome, steps) = machine
-        .run(&mut memory, program, 100)
-        .map_err(|_| anyhow!("the memory is too large"))?;
+    let (outcome, steps) = machine.run(&mut memory, program, 100)?;
     print!(rt; "call: {outcome} after {steps} steps")?;
     show_filled(rt, "r", &machine.registers)?;
     show_filled(rt, "byte ", &memory)?;

@@ -2,6 +2,7 @@
 use crate::asking::{Bench, count_lines};
 use crate::faults::show_fault;
 use allocation::held::Held;
+use call_faults::CallFault;
 use conventions::reading::read;
 use described::pile::Pile;
 use place::pieces::Place;
@@ -52,11 +53,11 @@ pub(crate) fn show_all_placed(
         } = bench.call(service, list, line, 0);
         service = after;
         match (Signature::read(list, line), answer) {
-            (Ok(_), Err(Fault::Placement(refusal))) => {
-                show_fault(rt, &Fault::Placement(refusal), description, list)?;
+            (Ok(_), Err(fault)) if matches!(fault, Fault::Call(CallFault::Placement(_))) => {
+                show_fault(rt, &fault, description, list)?;
             }
             (Ok(signature), _) => show_places(rt, &service, signature.name.as_str())?,
-            (Err(refusal), _) => show_fault(rt, &Fault::Signature(refusal), description, list)?,
+            (Err(refusal), _) => show_fault(rt, &Fault::from(refusal), description, list)?,
         }
     }
     Ok(())

@@ -3,27 +3,14 @@ use crate::faults::show_fault;
 use conventions::reading::read;
 use described::pile::Pile;
 use service::services::Service;
-use values::kinds::Kind;
-use values::sizes::Size;
 use values::value_type::ValueType;
 
-const KINDS: [Kind; 4] = [Kind::Unsigned, Kind::Signed, Kind::Float, Kind::Address];
-
-const SIZES: [Size; 4] = [Size::One, Size::Two, Size::Four, Size::Eight];
-
-// Each type of a kind that the bench always places.
-fn show_kind(
-    rt: &HostRuntime,
-    service: &Service<Pile>,
-    kind: Kind,
-    results: bool,
-) -> anyhow::Result<()> {
-    for size in SIZES {
-        if let Ok(value) = ValueType::new(kind, size) {
-            let always = service.always_places(value);
-            if (results && always.bench_results) || (!results && always.bench_arguments) {
-                print!(rt; " {value}")?;
-            }
+// Each type that the bench always places.
+fn show_types(rt: &HostRuntime, service: &Service<Pile>, results: bool) -> anyhow::Result<()> {
+    for value in ValueType::ALL {
+        let always = service.always_places(value);
+        if (results && always.bench_results) || (!results && always.bench_arguments) {
+            print!(rt; " {value}")?;
         }
     }
     Ok(())
@@ -36,14 +23,10 @@ pub(crate) fn show_report(rt: &HostRuntime, description: &[u8]) -> anyhow::Resul
         Err(fault) => return show_fault(rt, &fault, description, &[]),
     };
     print!(rt; "args")?;
-    for kind in KINDS {
-        show_kind(rt, &service, kind, false)?;
-    }
+    show_types(rt, &service, false)?;
     println!(rt; "")?;
     print!(rt; "results")?;
-    for kind in KINDS {
-        show_kind(rt, &service, kind, true)?;
-    }
+    show_types(rt, &service, true)?;
     println!(rt; "")?;
     Ok(())
 }
