@@ -5,7 +5,7 @@ ghost use Rattle.std.specs.List.{FoldsTo};
 ghost use Rattle.allocation.specs.States.{state, opened};
 ghost use Rattle.stage.specs.Books.{Alike};
 ghost use Rattle.histories.specs.Heard.{heard_of};
-ghost use Rattle.histories.specs.Events.{becomes, answers_at, told, places, used_of, after_past, answers_of_past, reopened_for};
+ghost use Rattle.histories.specs.Events.{told, places, used_of, after_past, answers_of_past, reopened_for};
 ghost use Rattle.histories.specs.Histories.{answers};
 ghost use Rattle.histories.specs.Laws.{LawfulAtEveryMoment, LawfulAfterEveryPast, EqualRequestsGetEqualAnswers};
 
@@ -16,20 +16,6 @@ use allocation::asked::Asked;
 use allocation::opened::Open;
 use arrayvec::ArrayVec;
 use stage::Stage;
-
-fn happen<P: Stage, L: Listener>(mut allocation: Open<P>, event: Event, listener: &mut L) -> Open<P>
-    ensures becomes_by_the_rules { state P.Stage result ≡ becomes (state P.Stage allocation) event }
-    ensures its_answer_is_heard { FoldsTo L.hears listener.old
-        (answers_at (state P.Stage allocation) event) listener.new }
-{
-    match event {
-        Event::Place(asked) => {
-            listener.hear(allocation.place(asked));
-            allocation
-        }
-        Event::Reopen => allocation.freeze().reopen(),
-    }
-}
 
 // Opens the pile, and lets what came to it come in turn; the listener is told each answer.
 pub fn play<P: Stage, L: Listener>(used: UsedPile<P>, listener: &mut L) -> Open<P>
@@ -43,7 +29,12 @@ pub fn play<P: Stage, L: Listener>(used: UsedPile<P>, listener: &mut L) -> Open<
     let UsedPile { pile, past } = used;
     let mut allocation = Open::new(pile);
     for event in past {
-        allocation = happen(allocation, *event, listener);
+        match *event {
+            Event::Place(asked) => {
+                listener.hear(allocation.place(asked));
+            }
+            Event::Reopen => allocation = allocation.freeze().reopen(),
+        }
     }
     allocation
 }
