@@ -157,8 +157,12 @@ fn store(memory: &mut [u8], at: usize, width: Width, v: u32)
     requires { at + bytes_of width ≤ length memory.old }
     ensures lowest_bytes_are_stored_and_no_other { memory.new ≡ stored memory.old at (bytes_of width) v }
 {
-    let count = width.bytes();
-    memory[at..at + count].copy_from_slice(&v.to_le_bytes()[..count]);
+    let bytes = v.to_le_bytes();
+    match width {
+        Width::One => memory[at..at + 1].copy_from_slice(&bytes[..1]),
+        Width::Two => memory[at..at + 2].copy_from_slice(&bytes[..2]),
+        Width::Four => memory[at..at + 4].copy_from_slice(&bytes),
+    }
 }
 
 impl Machine {
@@ -173,7 +177,9 @@ impl Machine {
         }
     }
 
-    // The memory index of LOAD and STORE at register `b`'s value plus `i`.
+    // The memory index of LOAD and STORE at register `b`'s value plus `i`. Always inlined, like `can_do` and `fetch`: as calls
+    // the three take longer than what a step does besides.
+    #[inline(always)]
     fn reached(&self, memory: &[u8], b: u8, i: i16, width: Width) -> Option<usize>
         ensures index_where_the_register_exists_and_all_bytes_lie_inside { result ≡ (if ok b then address (reg (contents_of self.now memory.now) b) i (bytes_of width) (length memory.now) else None) }
     {
@@ -185,6 +191,7 @@ impl Machine {
     }
 
     // Whether an instruction can be done in this mode, with these registers and this memory.
+    #[inline(always)]
     fn can_do(&self, memory: &[u8], instruction: Instruction) -> bool
         ensures whether_the_instruction_leads_to_a_state { result ≡ is_some (carried self.now.mode (contents_of self.now memory.now) instruction) }
     {
@@ -249,6 +256,7 @@ impl Machine {
     }
 
     // The instruction that the machine comes to, where it is there and can be done.
+    #[inline(always)]
     fn fetch(&self, memory: &[u8], program: Program) -> Option<Instruction>
         ensures leads_to_the_next_state { LeadsTo result self.now.mode (contents_of self.now memory.now) (next program.entry.caller.now program.entry.callee.now (state_of self.now memory.now)) }
         ensures next_index_fits { OnSome result (index_of self.now.mode < 2 ^ 64 - 1) }
@@ -260,9 +268,8 @@ impl Machine {
             Side::Caller => program.caller,
             Side::Callee => program.callee,
         };
-        code.get(at)
-            .copied()
-            .filter(|instruction| self.can_do(memory, *instruction))
+        let instruction = code.get(at).copied()?;
+        self.can_do(memory, instruction).then_some(instruction)
     }
 
     // Makes one step in place; false, with nothing changed, where the machine has ended or is stuck.
