@@ -5,7 +5,7 @@ use Rattle.std.specs.Iterator.{Yields}
 use Rattle.std.proofs.lemmas.Iterator.{YieldsList}
 use Rattle.std.proofs.lemmas.Iterator.Consumers.{YieldsList-turn, YieldsList-end}
 use Rattle.std.proofs.lemmas.List.Sums.{length-filter, count_by-le-length}
-use Rattle.std.proofs.lemmas.Bool.{cases_Bool, both_ways, false_from_ne_true, and_right, eqb-true, eq-eqb}
+use Rattle.std.proofs.lemmas.Bool.{cases_Bool, cond-false, both_ways, false_from_ne_true, and_right, eqb-true, eq-eqb}
 use Rattle.std.proofs.lemmas.List.{map-id}
 use Rattle.std.proofs.lemmas.List.FromFn.{filter_of_map_range_with_len_more, length-range_with_len, length-enumerate_from, get_or-enumerate_from}
 use Rattle.machine.specs.declared.Instruction.{Instruction}
@@ -45,6 +45,14 @@ has_none r = false_from_ne_true (has 0 r) (none_in_empty r)
 or_assoc : (a b c : Bool) → ((a || b) || c) ≡ (a || (b || c))
 or_assoc true b c = refl
 or_assoc false b c = refl
+
+none_of_them : (xs : List ℕ) → filter (has 0) xs ≡ []
+none_of_them [] = refl
+none_of_them (x ∷ xs) = cond-false (has 0 x) (x ∷ filter (has 0) xs) (filter (has 0) xs) (has_none x) ∙ none_of_them xs
+
+pub no_members : members 0 ≡ []
+unfolding members
+no_members = none_of_them (range_with_len 0 28)
 
 has_gathered : (ds : List ℕ) (s : RegisterSet) (r : ℕ) → r < 32 → has (gathered s ds).bits r ≡ (has s.bits r || list_any (λ d. d == r) ds)
 has_gathered [] s r h = sym (or_false (has s.bits r))

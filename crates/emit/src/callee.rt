@@ -11,7 +11,7 @@ use crate::instructions::{stack_down, stack_up};
 use crate::places::{CopyFrom, Fill, put_each};
 use crate::records::Records;
 use crate::saving::{WordMove, count_saved, put_saved, saved_registers};
-use crate::side::{SideCode, size, write};
+use crate::side::{Frame, SideCode, size, write};
 use allocation::frozen::Frozen;
 use machine::Instruction;
 use place::registers::RegisterSet;
@@ -41,6 +41,8 @@ impl<P: Stage, Q: Stage> SideCode for Callee<'_, P, Q> {
 
     ghost bytes = { λ c. frame_bytes (state P.Stage c.arguments.now).held (state Q.Stage c.results.now).held (saved c.kept.bits c.body.now) };
 
+    ghost saved = { λ c. saved c.kept.bits c.body.now };
+
     ghost places = { λ c. length (state P.Stage c.arguments.now).held + length (state Q.Stage c.results.now).held };
 
     ghost fault = { λ c. or_body (places_fault (state P.Stage c.arguments.now) (state Q.Stage c.results.now) c.kept.bits) (body_fault (home_bytes (length (state P.Stage c.arguments.now).held + length (state Q.Stage c.results.now).held)) c.body.now 0) };
@@ -54,25 +56,27 @@ impl<P: Stage, Q: Stage> SideCode for Callee<'_, P, Q> {
     }
 
     // Its homes and a word for each saved register.
-    fn stack_bytes(&self) -> u32 {
-        let words = count_saved(saved_registers(self.kept, self.body));
-        Size::Eight.round_up(self.home_bytes() + 4 * words as u16)
+    fn frame(&self) -> Frame {
+        let saved = saved_registers(self.kept, self.body);
+        let words = count_saved(saved);
+        Frame {
+            bytes: Size::Eight.round_up(self.home_bytes() + 4 * words as u16),
+            saved,
+        }
     }
 
-    fn put(&self, records: &mut Records) {
-        let frame = self.stack_bytes();
-        let saved = saved_registers(self.kept, self.body);
+    fn put(&self, frame: Frame, records: &mut Records) {
         // The words lie behind all homes.
         let words = u32::from(self.home_bytes());
         let arguments = self.arguments.held();
         let result_homes = 8 * arguments.len() as u32;
-        records.put(stack_down(frame));
-        put_saved(WordMove::Save, records, saved, words);
-        put_each(&CopyFrom { block: frame }, records, arguments, 0);
+        records.put(stack_down(frame.bytes));
+        put_saved(WordMove::Save, records, frame.saved, words);
+        put_each(&CopyFrom { block: frame.bytes }, records, arguments, 0);
         records.put_all(self.body);
         put_each(&Fill, records, self.results.held(), result_homes);
-        put_saved(WordMove::Restore, records, saved, words);
-        records.put(stack_up(frame));
+        put_saved(WordMove::Restore, records, frame.saved, words);
+        records.put(stack_up(frame.bytes));
         records.put(Instruction::Ret);
     }
 }

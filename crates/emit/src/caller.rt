@@ -1,5 +1,5 @@
 // The caller's code.
-ghost use Rattle.std.specs.Prelude.{◌≡◌, ◌+◌, ◌≤◌, length, IfOk, OnOk};
+ghost use Rattle.std.specs.Prelude.{◌≡◌, ◌+◌, ◌≤◌, [], length, IfOk, OnOk};
 ghost use Rattle.allocation.specs.States.{state};
 ghost use Rattle.delivery.specs.Code.{caller_code};
 ghost use Rattle.emit.specs.Coding.{block_bytes, places_fault, caller_fault, Coded, fault_in, HoldsWhatRequestsGot, RequestsGetWhatIsHeld, CallerOffsetsAreWhole};
@@ -9,7 +9,7 @@ use crate::faults::CodeFault;
 use crate::instructions::{stack_down, stack_up};
 use crate::places::{Fill, Store, put_each};
 use crate::records::Records;
-use crate::side::{SideCode, size, write};
+use crate::side::{Frame, SideCode, size, write};
 use allocation::frozen::Frozen;
 use machine::Instruction;
 use place::registers::RegisterSet;
@@ -28,6 +28,9 @@ impl<P: Stage, Q: Stage> SideCode for Caller<'_, P, Q> {
 
     ghost bytes = { λ c. block_bytes (state P.Stage c.arguments.now) };
 
+    // None: what is kept, the callee saves.
+    ghost saved = { λ _. [] };
+
     ghost places = { λ c. length (state P.Stage c.arguments.now).held + length (state Q.Stage c.results.now).held };
 
     ghost fault = { λ c. places_fault (state P.Stage c.arguments.now) (state Q.Stage c.results.now) c.kept.bits };
@@ -39,12 +42,15 @@ impl<P: Stage, Q: Stage> SideCode for Caller<'_, P, Q> {
     }
 
     // What the arguments' block takes.
-    fn stack_bytes(&self) -> u32 {
-        Size::Eight.round_up(self.arguments.reach())
+    fn frame(&self) -> Frame {
+        Frame {
+            bytes: Size::Eight.round_up(self.arguments.reach()),
+            saved: RegisterSet::EMPTY,
+        }
     }
 
-    fn put(&self, records: &mut Records) {
-        let block = self.stack_bytes();
+    fn put(&self, frame: Frame, records: &mut Records) {
+        let block = frame.bytes;
         let arguments = self.arguments.held();
         let result_homes = block + 8 * arguments.len() as u32;
         records.put(stack_down(block));

@@ -1,4 +1,5 @@
-// The code for places: filled from homes, copied to homes, stored to homes.
+// The code for places: filled from homes, copied to homes, stored to homes. What writes a record or two is always inlined,
+// since a call for each place or piece costs as much as what it writes.
 ghost use Rattle.std.specs.Prelude.{◌≡◌, ◌+◌, ◌*◌, ◌^◌, ◌<◌, ◌≤◌, ℕ, List, [], ◌∷◌, ◌++◌, map, length};
 ghost use Rattle.machine.specs.declared.Instruction.{Instruction};
 ghost use Rattle.place.specs.Holdings.{Holding};
@@ -32,6 +33,7 @@ pub(crate) struct Fill;
 impl HomeCode for Fill {
     ghost code = { λ s. fill_place };
 
+    #[inline(always)]
     fn put(&self, records: &mut Records, held: Held, home: u32) {
         let value = held.value;
         match held.place {
@@ -51,6 +53,7 @@ impl HomeCode for Fill {
 }
 
 // The instruction that gives a piece its value, and a store where it lies in the block.
+#[inline(always)]
 fn put_filled(records: &mut Records, piece: Piece, x: Instruction)
     requires room { records.old.len < 2 ^ 31 }
     ensures then_settled { Appends (x ∷ settle piece) records.old records.new }
@@ -72,6 +75,7 @@ pub(crate) struct CopyFrom {
 impl HomeCode for CopyFrom {
     ghost code = { λ s. copy_place s.block };
 
+    #[inline(always)]
     fn put(&self, records: &mut Records, held: Held, home: u32) {
         match held.place {
             Place::Single(low) => copy_piece(records, low, self.block, home),
@@ -83,6 +87,7 @@ impl HomeCode for CopyFrom {
     }
 }
 
+#[inline(always)]
 fn copy_piece(records: &mut Records, piece: Piece, block: u32, home: u32)
     requires room { records.old.len < 2 ^ 31 }
     requires near { block ≤ 100000 }
@@ -104,6 +109,7 @@ pub(crate) struct Store;
 impl HomeCode for Store {
     ghost code = { λ s. store_place };
 
+    #[inline(always)]
     fn put(&self, records: &mut Records, held: Held, home: u32) {
         let width = held.value.width;
         match (held.place, width) {
@@ -129,6 +135,7 @@ fn store_piece(records: &mut Records, piece: Piece, width: Size, home: u32)
 }
 
 // Places whose homes lie one after the other, the first at `home`.
+#[inline(always)]
 pub(crate) fn put_each<H: HomeCode>(how: &H, records: &mut Records, held: &[Held], home: u32)
     requires room { records.old.len < 2 ^ 29 }
     requires few_places { length held.now ≤ 16 }

@@ -20,6 +20,8 @@ impl<'a> Records<'a> {
         Records { list, len: 0 }
     }
 
+    // Always inlined: a call for each record costs as much as writing it.
+    #[inline(always)]
     pub(crate) fn put(&mut self, x: Instruction)
         requires room { self.old.len < 2 ^ 32 }
         ensures one_record_more { Appends (x ∷ []) self.old self.new }

@@ -1,9 +1,16 @@
-use Rattle.std.proofs.Common.{refl, rules, tests}
+use Rattle.std.proofs.Common.{◌≡◌, [], length, refl, sym, ap, ◌∙◌, rules, tests}
 use Rattle.std.proofs.lemmas.Iterator.{YieldsList-from_range}
 use Rattle.std.proofs.lemmas.Iterator.Consumers.{YieldsList-at, YieldsList-from_filter, count_from_yields_List}
 use Rattle.place.specs.Registers.{has}
 use Rattle.emit.specs.Registers.{members}
+use Rattle.emit.proofs.Saved.{no_members}
 use Rattle.emit.proofs.saving.count_saved.Goals as goal
+
+pub returns-then-eq-clause-their_number : goal.returns-then-eq-clause-their_number
+returns-then-eq-clause-their_number c =
+    let none : c.args.saved.bits ≡ 0 = search rules in
+    let empty : members c.args.saved.bits ≡ [] = ap members none ∙ no_members in
+    sym (ap length empty)
 
 pub returns-clause-their_number : goal.returns-clause-their_number
 unfolding members

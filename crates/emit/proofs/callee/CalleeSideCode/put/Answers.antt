@@ -13,7 +13,7 @@ put_all-requires-clause-short g c = allowed_short _ _ c.args.self.now.body.now c
 
 pub returns : goal.returns
 returns g c =
-    let f = c.stack_bytes-frame.result in
+    let f = c.args.frame.bytes in
     let a = state g.P.Stage c.args.self.now.arguments.now in
     let r = state g.Q.Stage c.args.self.now.results.now in
     let kept = c.args.self.now.kept.bits in
@@ -30,7 +30,7 @@ returns g c =
     let copies = copy_all f hs 0 in
     let fills = fill_all ks (home_bytes (length hs)) in
     let loads = restore_all rs (home_bytes (length hs + length ks)) in
-    let registers = c.saved_registers-saved.ensures.kept_ones_that_the_body_writes in
+    let registers = c.requires.its_saved_registers in
     let saved_words = appends_same _ saves _ _ (ap (λ (l : List ℕ). save_all l c.from-words.result) registers ∙ ap (save_all rs) words) c.put_saved.ensures.code_for_each_register in
     let filled = appends_same _ fills _ _ (ap (fill_all ks) homes) c.put_each-2.ensures.code_for_each_place in
     let loaded = appends_same _ loads _ _ (ap (λ (l : List ℕ). restore_all l c.from-words.result) registers ∙ ap (restore_all rs) words) c.put_saved-2.ensures.code_for_each_register in
@@ -38,7 +38,7 @@ returns g c =
     let after = after_body hs ks rs f in
     record {
       the_whole_code =
-          appends_same (framed_code hs ks kept body f) (callee_code a.held r.held kept body) _ _ (same_callee hs a.held ks r.held kept body f e h c.stack_bytes-frame.ensures.its_stack_bytes)
+          appends_same (framed_code hs ks kept body f) (callee_code a.held r.held kept body) _ _ (same_callee hs a.held ks r.held kept body f e h c.requires.its_stack_bytes)
           (appends_then (before ++ (body ++ after)) (Ret ∷ []) _ _ _
           (appends_then before (body ++ after) _ _ _
           (appends_put (down f) _ (saves ++ copies) _ _ _ c.stack_down.ensures.takes_the_bytes c.put.ensures.one_record_more

@@ -10,7 +10,7 @@ use Rattle.emit.proofs.caller.CallerSideCode.put.Goals as goal
 
 pub returns : goal.returns
 returns g c =
-    let b = c.stack_bytes-block.result in
+    let b = c.args.frame.bytes in
     let a = state g.P.Stage c.args.self.now.arguments.now in
     let r = state g.Q.Stage c.args.self.now.results.now in
     let hs = map holding c.held-arguments.result.now in
@@ -22,7 +22,7 @@ returns g c =
     let rest = (stores ++ (up b ∷ [])) ++ (Halt ∷ []) in
     record {
       the_whole_code =
-          appends_same (caller_code hs ks b) (caller_code a.held r.held (block_bytes a)) _ _ (same_caller hs a.held ks r.held b (block_bytes a) c.held-arguments.ensures.granted_since_opened_in_order c.held.ensures.granted_since_opened_in_order c.stack_bytes-block.ensures.its_stack_bytes)
+          appends_same (caller_code hs ks b) (caller_code a.held r.held (block_bytes a)) _ _ (same_caller hs a.held ks r.held b (block_bytes a) c.held-arguments.ensures.granted_since_opened_in_order c.held.ensures.granted_since_opened_in_order c.requires.its_stack_bytes)
           (appends_put (down b) _ (fills ++ (Call ∷ rest)) _ _ _ c.stack_down.ensures.takes_the_bytes c.put.ensures.one_record_more
           (appends_then fills (Call ∷ rest) _ _ _ c.put_each.ensures.code_for_each_place
           (appends_put Call _ rest _ _ _ refl c.put-2.ensures.one_record_more

@@ -2,7 +2,7 @@ use Rattle.std.proofs.Common.{◌+◌, ◌*◌, length, drop}
 use Rattle.delivery.specs.Code.{each_word}
 use Rattle.emit.specs.Registers.{members, word_code}
 use Rattle.emit.proofs.Emits.{Left}
-use Rattle.emit.proofs.saving.put_saved.Given as goal
+use Rattle.emit.proofs.saving.put_words.Given as goal
 
 abbrev pub invariant-loop-i : goal.invariant-loop-i
 invariant-loop-i l =
